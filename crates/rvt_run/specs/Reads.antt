@@ -9,17 +9,23 @@ use Rattle.rvt_run.specs.declared.top.Unread.TheVariants.{Failed, TooLong, Memor
 use Rattle.rvt_run.specs.Answer.{IsWhole, IsLong, cannot_read, too_long}
 
 -- what the desk was asked
+abbrev pub unread_calls : List ℕ → Unread → List Call
+unread_calls name Failed = failed_call Read name ∷ []
+unread_calls name TooLong = call Read name ∷ []
+unread_calls name Memory = []
+
 abbrev pub read_calls : {T : Type 0} → List ℕ → Result T Unread → List Call
 read_calls name (Ok bytes) = call Read name ∷ []
-read_calls name (Err Failed) = failed_call Read name ∷ []
-read_calls name (Err TooLong) = call Read name ∷ []
-read_calls name (Err Memory) = []
+read_calls name (Err why) = unread_calls name why
 
 -- the whole of the file, or it is too long
+abbrev pub IsUnreadBy : Option Files → List ℕ → Unread → Type 0
+IsUnreadBy files name TooLong = IsLong files name
+IsUnreadBy files name _ = Unit {0}
+
 abbrev pub IsReadBy : Option Files → List ℕ → Result (Vec ℕ Global) Unread → Type 0
 IsReadBy files name (Ok bytes) = IsWhole files name bytes.items
-IsReadBy files name (Err TooLong) = IsLong files name
-IsReadBy files name (Err _) = Unit {0}
+IsReadBy files name (Err why) = IsUnreadBy files name why
 
 -- the status and the lines of a file that isn't there to be compared
 abbrev pub SaysUnread : List ℕ → Unread → ℕ → List (List ℕ) → Type 0

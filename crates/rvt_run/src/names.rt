@@ -1,8 +1,10 @@
 //! The functions of a file by their names.
 
-ghost use Rattle.std.specs.Prelude.{◌≡◌, ◌<◌, ◌≤◌, ◌^◌, length, IfOk, IfSome};
-ghost use Rattle.rvt_run.specs.Names.{named_number, AreNumbers};
+ghost use Rattle.std.specs.Prelude.{◌≡◌, ◌≤◌, ◌^◌, length, IfOk};
+ghost use Rattle.std.specs.Option.{option_copied};
+ghost use Rattle.rvt_run.specs.Names.{named, named_number, AreNumbers};
 
+use crate::lookup::at;
 use indexmap::IndexMap;
 use rvt_tree::Function;
 use std::alloc::{AllocError, Global};
@@ -27,4 +29,19 @@ pub fn number_of(table: &IndexMap<&[u8], u32>, name: &[u8]) -> Option<u32>
     ensures { result ≡ named_number name.now table.now }
 {
     table.get(name).copied()
+}
+
+/// The function of a name, where the table has the numbers of these functions.
+pub fn find<'a>(
+    table: &IndexMap<&[u8], u32>,
+    functions: &'a [Function],
+    name: &[u8],
+) -> Option<&'a Function>
+    requires { AreNumbers table.now functions.now }
+    ensures { option_copied result ≡ named functions.now name.now }
+{
+    match number_of(table, name) {
+        Some(number) => at(functions, number as usize),
+        None => None,
+    }
 }

@@ -1,0 +1,14 @@
+pub mod WorkedRows
+pub mod Tracks
+pub mod Follows
+pub mod Bounds
+pub mod Enough
+pub mod Unlogged
+pub mod Seen
+pub mod LoopLaws
+pub mod Exact
+pub mod Tabled
+pub mod OneTable
+pub mod TwinTrees
+pub mod TwinLoops
+pub mod TwinRuns

@@ -1,0 +1,14 @@
+pub mod Outcomes
+pub mod Stores
+pub mod Expressions
+pub mod Statements
+pub mod Runs
+pub mod Tables
+pub mod Logs
+pub mod Loops
+pub mod Promises
+pub mod Typed
+pub mod Interfaces
+pub mod AbstractRuns
+pub mod Twins
+pub mod Laws
