@@ -4,8 +4,8 @@ use Rattle.rvt_num.specs.Number.{Number}
 use Rattle.rvt_num.specs.declared.values.Value.{Value}
 use Rattle.rvt_tree.specs.declared.programs.Program.{Program}
 use Rattle.c_meaning.specs.Outcomes.{state, Outcome, Done, Returning, Trapped, Cut, Deep, Doing, Manner, cut}
-use Rattle.c_meaning.specs.Runs.{spend, turns, nested, calls, running, run, stop_of_call, End, ByTrap, ByReturn, ByEnd, Stop, Ended, IsCut, IsDeep}
-use Rattle.c_meaning.specs.Loops.{loop_of, loop_locals, locals_at, stop_of_loop, looped, run_loop}
+use Rattle.c_meaning.specs.Runs.{spend, turns, nested, calls, running, stop_of_call, End, Ended, IsCut, IsDeep}
+use Rattle.c_meaning.specs.Loops.{loop_of, loop_locals, stop_of_loop, looped}
 use Rattle.c_meaning.specs.Promises.{Part, AFunction, ALoop, Start, flat, run_part}
 use Rattle.c_meaning.proofs.Tracks.{Order, Grown, IsGood, Matched, Tracks, Follow, further, settle, tracks_turn, tracks_deep}
 use Rattle.c_meaning.proofs.Follows.{tracks_called}

@@ -6,7 +6,7 @@ use Rattle.rvt_tree.specs.Views.{stmt_view}
 use Rattle.rvt_tree.specs.declared.statements.Stmt.{Stmt}
 use Rattle.rvt_tree.specs.declared.programs.Program.{Program}
 use Rattle.rvt_tree.specs.declared.programs.Function.{Function}
-use Rattle.c_meaning.specs.Outcomes.{state, Outcome, Done, Returning, Trapped, Cut, Deep, Doing, Answers, Manner, Normally, give}
+use Rattle.c_meaning.specs.Outcomes.{state, Outcome, Done, Returning, Trapped, Cut, Deep, Doing, Answers, Manner}
 use Rattle.c_meaning.specs.Statements.{or_else}
 use Rattle.c_meaning.specs.Runs.{turn, spend, running, End, ByTrap, ByReturn, ByEnd, Ended}
 use Rattle.c_meaning.specs.Loops.{Loop, loop_in, loop_in_block, loop_in_groups, loop_in_body, loop_in_function, loop_of, loop_locals, locals_at, stop_of_loop, looped, turned, turned_in_run, run_loop}

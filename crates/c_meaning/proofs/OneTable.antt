@@ -1,8 +1,7 @@
 -- Two programs that stand over one table read and write its objects alike.
-use Rattle.std.proofs.Common.{◌≡◌, ℕ, zero, suc, ◌+◌, List, [], ◌∷◌, ◌++◌, length, get_or, set, take, drop, map, slice_get, Bool, true, false, if◌then◌else◌, Option, Some, None, option_map, Result, Ok, Err, refl, sym, ap, ap₂, ◌∙◌, subst, ℤ, pos, ◌+ℤ◌}
+use Rattle.std.proofs.Common.{◌≡◌, ℕ, zero, suc, ◌+◌, List, [], ◌∷◌, ◌++◌, length, get_or, set, take, drop, map, slice_get, Bool, true, false, if◌then◌else◌, Option, Some, None, option_map, Ok, Err, refl, sym, ap, ap₂, ◌∙◌, ℤ, pos, ◌+ℤ◌}
 use mathlib.Core.Path.{fun_ext}
 use Rattle.rvt_num.specs.declared.kinds.Kind.{Kind}
-use Rattle.rvt_num.specs.declared.values.Trap.{Trap}
 use Rattle.rvt_num.specs.declared.values.Trap.TheVariants as T
 use Rattle.rvt_num.specs.declared.values.Value.{Value}
 use Rattle.rvt_num.specs.declared.values.Value.TheVariants.{Num, Null, At}
@@ -16,13 +15,13 @@ use Rattle.rvt_tree.specs.declared.programs.Program.{Program}
 use Rattle.rvt_tree.specs.declared.programs.Object.{Object}
 use Rattle.rvt_tree.specs.Same.{ArePaired, SamePointee, SameVariable}
 use Rattle.c_types.specs.Layout.{Plan, Shape, AnArray, AStruct, repeated, is_whole, plan_with, plan_of, shape_of}
-use Rattle.c_meaning.specs.Outcomes.{State, Doing, Done}
-use Rattle.c_meaning.specs.Stores.{Location, stored, first_cell, objects_of, cells_in, object_cells, with_cells_in, overwritten, with_object, cells_of, locals_with, store_with, with_cells, read, write, length_of, object_length, within, moved, plan_of_object, begins_in_plan, begins_at, target, cleared}
+use Rattle.c_meaning.specs.Outcomes.{State, Done}
+use Rattle.c_meaning.specs.Stores.{Location, stored, first_cell, objects_of, cells_in, object_cells, with_cells_in, overwritten, with_object, cells_of, locals_with, store_with, with_cells, length_of, within, moved, plan_of_object, begins_in_plan, target, cleared}
 use Rattle.c_meaning.specs.Expressions.{looked_up}
 use Rattle.c_meaning.specs.Statements.{put, put_cells, cleared_cells}
 use Rattle.c_meaning.specs.Runs.{zero_cells, is_owner, for_owned, opened, closed}
-use Rattle.c_meaning.specs.Outcomes.{Manner, Normally}
-use Rattle.c_meaning.specs.Twins.{SameShape, SameType, SameObject, SameObjects, StandOverOneTable}
+use Rattle.c_meaning.specs.Outcomes.{Normally}
+use Rattle.c_meaning.specs.Twins.{SameType, SameObject, SameObjects, StandOverOneTable}
 
 -- ---- cells of types
 

@@ -1,5 +1,5 @@
 -- The loop statements of two parts of a program that are the same under a pairing.
-use Rattle.std.proofs.Common.{◌≡◌, ℕ, List, Bool, true, false, if◌then◌else◌, nat_eq, Option, Some, None, refl, sym, ap, ap₂, ◌∙◌}
+use Rattle.std.proofs.Common.{◌≡◌, ℕ, List, Bool, true, false, if◌then◌else◌, nat_eq, Option, Some, None, refl, ap, ap₂, ◌∙◌}
 use Rattle.rvt_num.specs.declared.values.Value.{Value}
 use Rattle.rvt_tree.specs.declared.statements.Stmt.{Stmt}
 use Rattle.rvt_tree.specs.declared.pairings.Pairing.{Pairing}
@@ -11,7 +11,7 @@ use Rattle.rvt_tree.specs.Same.{ArePaired, SameStatement, SameStatements, SameGr
 use Rattle.c_meaning.specs.Outcomes.{Doing, Answers, Manner}
 use Rattle.c_meaning.specs.Statements.{or_else, after_body}
 use Rattle.c_meaning.specs.Loops.{Loop, loop_in, loop_in_block, loop_in_groups, loop_in_body, loop_in_function}
-use Rattle.c_meaning.specs.Twins.{StandOverOneTable, SameBody, SameFunction, AreTwins}
+use Rattle.c_meaning.specs.Twins.{StandOverOneTable, SameBody, AreTwins}
 use Rattle.c_meaning.proofs.TwinTrees.{then_same, if_same, apart, same_condition, same_acts, same_test, same_meaning}
 
 module _ (pairing : Pairing) (program program' : Program) (one : StandOverOneTable pairing program program') {X : Type 0} (answers answers' : Answers X)

@@ -1,8 +1,6 @@
 -- The functions of a closed set of twins have the same runs.
-use Rattle.std.proofs.Common.{◌≡◌, ℕ, zero, suc, List, [], ◌∷◌, ◌++◌, map, slice_get, Bool, Option, Some, None, option_map, refl, sym, ap, ap₂, ◌∙◌, subst}
+use Rattle.std.proofs.Common.{◌≡◌, ℕ, zero, suc, List, [], ◌∷◌, ◌++◌, map, Bool, Option, Some, None, refl, sym, ap, ap₂, ◌∙◌, subst}
 use mathlib.Core.Path.{fun_ext}
-use Rattle.rvt_num.specs.Number.{Number}
-use Rattle.rvt_num.specs.declared.kinds.Kind.{Kind}
 use Rattle.rvt_num.specs.declared.values.Value.{Value}
 use Rattle.rvt_tree.specs.declared.types.CType.{CType}
 use Rattle.rvt_tree.specs.declared.statements.Stmt.{Stmt}
@@ -15,11 +13,11 @@ use Rattle.rvt_tree.specs.Views.{stmt_view}
 use Rattle.rvt_tree.specs.Same.{ArePaired}
 use Rattle.c_meaning.specs.Outcomes.{State, Outcome, Done, Returning, Trapped, Cut, Deep, Doing, Answers, Manner}
 use Rattle.c_meaning.specs.Stores.{objects_of, with_object}
-use Rattle.c_meaning.specs.Runs.{unless_object, first_cells, parameter_cells, locals_at_entry, opened, with_argument, with_arguments, not_returned, entered, back, finished, body_of, call_in, called, spend, turns, nested, calls, running, stop_of_call, run, End, Ended}
+use Rattle.c_meaning.specs.Runs.{unless_object, first_cells, parameter_cells, opened, with_argument, with_arguments, not_returned, entered, back, finished, body_of, call_in, called, spend, turns, nested, calls, running, stop_of_call, run}
 use Rattle.c_meaning.specs.Tables.{put_at}
 use Rattle.c_meaning.specs.Loops.{Loop, loop_of, zero_locals, loop_locals, stop_of_loop, looped, run_loop}
 use Rattle.c_meaning.specs.Promises.{Part, AFunction, ALoop, Start, flat, run_part, Full, function_versions, loop_versions}
-use Rattle.c_meaning.specs.Twins.{SameObjects, StandOverOneTable, SameObjectNumber, SameLocal, SameLocals, SameResult, SameBody, SameFunction, AreTwins, IsClosed, struct_cells}
+use Rattle.c_meaning.specs.Twins.{SameObjects, StandOverOneTable, SameObjectNumber, SameLocals, SameResult, SameBody, SameFunction, AreTwins, IsClosed}
 use Rattle.c_meaning.proofs.OneTable.{zeros_same, opened_same, closed_same, with_object_same}
 use Rattle.c_meaning.proofs.TwinTrees.{same_meaning}
 use Rattle.c_meaning.proofs.TwinLoops.{same_loop_in_function}

@@ -1,22 +1,21 @@
 -- Two parts of a program that are the same under a pairing do the same, where paired functions give the same answers and objects stand in one table.
-use Rattle.std.proofs.Common.{◌≡◌, ℕ, List, [], ◌∷◌, ◌++◌, take, drop, Bool, true, false, if◌then◌else◌, IsTrue, Option, Some, None, Result, refl, sym, ap, ap₂, ◌∙◌, ℤ, pos, neg_ℤ, unwrap_or}
+use Rattle.std.proofs.Common.{◌≡◌, ℕ, List, [], ◌∷◌, ◌++◌, take, drop, Bool, true, false, if◌then◌else◌, IsTrue, Option, Some, None, Result, refl, ap, ap₂, ◌∙◌, pos, neg_ℤ, unwrap_or}
 use mathlib.Core.Path.{fun_ext}
-use Rattle.rvt_num.specs.Number.{Number}
 use Rattle.rvt_num.specs.Operations.{converted}
 use Rattle.rvt_num.specs.declared.values.Trap.{Trap}
 use Rattle.rvt_num.specs.declared.values.Value.{Value}
-use Rattle.rvt_num.specs.declared.values.Value.TheVariants.{Num, Null}
+use Rattle.rvt_num.specs.declared.values.Value.TheVariants.{Num}
 use Rattle.rvt_tree.specs.declared.types.Pointee.TheVariants as P
 use Rattle.rvt_tree.specs.declared.expressions.Variable.{Variable}
 use Rattle.rvt_tree.specs.declared.statements.Label.{Label}
 use Rattle.rvt_tree.specs.declared.pairings.Pairing.{Pairing}
 use Rattle.rvt_tree.specs.declared.programs.Program.{Program}
 use Rattle.rvt_tree.specs.Syntax.{LvalueExpression, identifier, element, member, dereference, subscript, arrow, Expression, constant, null_pointer, value_at, address, decay, cast, plus, minus, complement, negation, binary, equal_pointers, unequal_pointers, pointer_plus, plus_pointer, pointer_minus, logical_and, logical_or, conditional, call, Arguments, no_arguments, argument, Action, evaluate, call_void, discard, discard_void, assign, compound_assign, advance, retreat, step, step_pointer, Initializer, initial_value, braces, Initializers, no_initializers, initializer, Statement, compound, null_statement, action, declaration, declaration_with, break_statement, continue_statement, return_statement, return_value, if_statement, if_else, while_loop, do_loop, for_loop, switch, Statements, no_statements, statement, Groups, no_groups, labelled}
-use Rattle.rvt_tree.specs.Same.{ArePaired, SamePointee, SameVariable, SameLvalue, SameExpression, SameArguments, SameAction, SameActions, SameInitializer, SameInitializers, SameTest, SameStatement, SameStatements, SameGroups}
-use Rattle.c_meaning.specs.Outcomes.{Doing, Answers, Manner, Normally, Broke, Continued, give, leave, and_then, unless_trapped}
-use Rattle.c_meaning.specs.Stores.{Location, number_of, holds, same_pointer, beyond, element_at, moved, target, pointer_to}
-use Rattle.c_meaning.specs.Expressions.{truth_value, operated, times, result_value, looked_up, place_of, address_of, value_of, values_of, condition}
-use Rattle.c_meaning.specs.Statements.{nothing, put, put_cells, cleared_cells, updated, direction, bumped, declared_variable, declared_in, in_scope, normally_then, after_body, after_group, is_case, is_default, any, or_else, replaced, replaced_alone, act, acts, initial_cells, member_cells, test_of, meaning, block, group}
+use Rattle.rvt_tree.specs.Same.{ArePaired, SameLvalue, SameExpression, SameArguments, SameAction, SameActions, SameInitializer, SameInitializers, SameTest, SameStatement, SameStatements, SameGroups}
+use Rattle.c_meaning.specs.Outcomes.{Doing, Answers, Manner, Normally, give, and_then, unless_trapped}
+use Rattle.c_meaning.specs.Stores.{number_of, holds, beyond, element_at, moved, pointer_to}
+use Rattle.c_meaning.specs.Expressions.{operated, times, place_of, address_of, value_of, values_of, condition}
+use Rattle.c_meaning.specs.Statements.{updated, direction, bumped, declared_variable, declared_in, in_scope, normally_then, after_body, is_case, is_default, any, or_else, replaced, replaced_alone, act, acts, initial_cells, member_cells, test_of, meaning, block, group}
 use Rattle.c_meaning.specs.Twins.{StandOverOneTable}
 use Rattle.c_meaning.proofs.OneTable.{looked_up_same, put_same, put_cells_same, cleared_cells_same, moved_same, target_same, variable_same}
 

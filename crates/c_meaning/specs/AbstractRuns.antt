@@ -9,7 +9,7 @@ use Rattle.rvt_tree.specs.declared.types.CType.{CType}
 use Rattle.rvt_tree.specs.declared.programs.Program.{Program}
 use Rattle.c_meaning.specs.Outcomes.{state, Outcome, Done, Returning, Trapped, Cut, Deep, Manner}
 use Rattle.c_meaning.specs.Runs.{End, ByTrap, ByReturn, ByEnd, called}
-use Rattle.c_meaning.specs.Tables.{UnitName, Key, Answer, TrapOf, ResultOf, LocalsOf, Entry, Made, Directory, under_table}
+use Rattle.c_meaning.specs.Tables.{UnitName, Answer, TrapOf, ResultOf, LocalsOf, Entry, Made, Directory, under_table}
 use Rattle.c_meaning.specs.Loops.{loop_of, loop_locals, locals_at, turned}
 use Rattle.c_meaning.specs.Promises.{Part, AFunction, ALoop, Start, flat, AreOfTypes, AreNumbersOf, IsNumberOf}
 

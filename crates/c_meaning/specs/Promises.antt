@@ -8,7 +8,6 @@ use Rattle.rvt_tree.specs.declared.types.CType.{CType}
 use Rattle.rvt_tree.specs.declared.types.CType.TheVariants as C
 use Rattle.rvt_tree.specs.declared.programs.Program.{Program}
 use Rattle.rvt_tree.specs.declared.programs.Function.{Function}
-use Rattle.rvt_tree.specs.declared.programs.Local.{Local}
 use Rattle.rvt_tree.specs.declared.programs.Object.{Object}
 use Rattle.c_types.specs.Layout.{Plan, plan_of}
 use Rattle.c_meaning.specs.Stores.{objects_of}

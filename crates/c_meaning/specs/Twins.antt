@@ -1,5 +1,5 @@
 -- Functions that are equal where functions, objects and structs are paired, and sets of them that call only one another.
-use Rattle.std.specs.Prelude.{◌≡◌, ℕ, List, [], ◌∷◌, length, slice_get, Bool, true, Option, Some, None, option_map}
+use Rattle.std.specs.Prelude.{◌≡◌, ℕ, List, [], ◌∷◌, length, slice_get, true, Option, Some, None, option_map}
 use Rattle.rvt_num.specs.declared.kinds.Kind.{Kind}
 use Rattle.rvt_tree.specs.declared.types.CType.{CType}
 use Rattle.rvt_tree.specs.declared.types.Pointee.{Pointee}

@@ -1,6 +1,5 @@
 -- What the meaning of a program takes from typing: that the kinds, sizes, counts and offsets in its trees are those of its types.
 use Rattle.std.specs.Prelude.{◌≡◌, ℕ, zero, suc, ◌+◌, ◌*◌, ◌<◌, List, [], ◌∷◌, ◌++◌, length, slice_get, Bool, true, false, Option, Some, None, option_map, option_and_then, IsSomeAnd, All, replicate}
-use Rattle.rvt_num.specs.Number.{Number}
 use Rattle.rvt_num.specs.Kinds.{IsOf, promoted_kind}
 use Rattle.rvt_num.specs.Operations.{result_kind, is_shift}
 use Rattle.rvt_num.specs.declared.kinds.Kind.{Kind}
@@ -19,7 +18,7 @@ use Rattle.rvt_tree.specs.declared.programs.Function.{Function}
 use Rattle.rvt_tree.specs.declared.programs.Local.{Local}
 use Rattle.rvt_tree.specs.declared.programs.Object.{Object}
 use Rattle.rvt_tree.specs.declared.programs.StructDef.{StructDef}
-use Rattle.rvt_tree.specs.Syntax.{LvalueExpression, identifier, element, member, dereference, subscript, arrow, Expression, constant, null_pointer, value_at, address, decay, cast, plus, minus, complement, negation, binary, equal_pointers, unequal_pointers, pointer_plus, plus_pointer, pointer_minus, logical_and, logical_or, conditional, call, Arguments, no_arguments, argument, Action, evaluate, call_void, discard, discard_void, assign, compound_assign, advance, retreat, step, step_pointer, Initializer, initial_value, braces, Initializers, no_initializers, initializer, Statement, compound, null_statement, action, declaration, declaration_with, break_statement, continue_statement, return_statement, return_value, if_statement, if_else, while_loop, do_loop, for_loop, switch, Statements, no_statements, statement, Groups, no_groups, labelled}
+use Rattle.rvt_tree.specs.Syntax.{LvalueExpression, identifier, element, member, dereference, subscript, arrow, Expression, constant, null_pointer, value_at, address, decay, cast, plus, minus, complement, negation, binary, equal_pointers, unequal_pointers, pointer_plus, plus_pointer, pointer_minus, logical_and, logical_or, conditional, call, Arguments, no_arguments, argument, Action, evaluate, call_void, discard, discard_void, assign, compound_assign, advance, retreat, step, step_pointer, Initializer, initial_value, braces, Initializers, no_initializers, initializer, Statement, compound, action, declaration, declaration_with, return_value, if_statement, if_else, while_loop, do_loop, for_loop, switch, Statements, no_statements, statement, Groups, no_groups, labelled}
 use Rattle.rvt_tree.specs.Views.{stmt_view}
 use Rattle.c_types.specs.Layout.{Shape, AWord, APointer, AnArray, AStruct, shape_of, plan_of, plan_of_struct}
 use Rattle.c_meaning.specs.Stores.{objects_of}

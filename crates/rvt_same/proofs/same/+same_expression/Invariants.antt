@@ -1,4 +1,4 @@
-use Rattle.std.proofs.Common.{◌≡◌, ◌≤◌, ◌↔◌}
+use Rattle.std.proofs.Common.{◌≤◌, ◌↔◌}
 use Rattle.rvt_tree.specs.Views.{exprs_view}
 use Rattle.rvt_tree.specs.declared.expressions.Exprs.{size-Exprs}
 use Rattle.rvt_tree.specs.Same.{SameArguments}

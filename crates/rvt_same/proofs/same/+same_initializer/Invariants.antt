@@ -1,4 +1,4 @@
-use Rattle.std.proofs.Common.{◌≡◌, ◌≤◌, ◌↔◌}
+use Rattle.std.proofs.Common.{◌≤◌, ◌↔◌}
 use Rattle.rvt_tree.specs.Views.{inits_view}
 use Rattle.rvt_tree.specs.declared.statements.Inits.{size-Inits}
 use Rattle.rvt_tree.specs.Same.{SameInitializers}

@@ -1,4 +1,4 @@
-use Rattle.std.proofs.Common.{◌≡◌, ◌≤◌, ◌↔◌}
+use Rattle.std.proofs.Common.{◌≤◌, ◌↔◌}
 use Rattle.rvt_tree.specs.Views.{stmts_view, groups_view}
 use Rattle.rvt_tree.specs.declared.statements.Stmts.{size-Stmts}
 use Rattle.rvt_tree.specs.declared.statements.Groups.{size-Groups}

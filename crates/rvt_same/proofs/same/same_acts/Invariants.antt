@@ -1,4 +1,4 @@
-use Rattle.std.proofs.Common.{◌≡◌, ◌≤◌, ◌↔◌}
+use Rattle.std.proofs.Common.{◌↔◌}
 use Rattle.rvt_tree.specs.Views.{acts_view}
 use Rattle.rvt_tree.specs.Same.{SameActions}
 use Rattle.rvt_same.proofs.same.same_acts.Given as goal

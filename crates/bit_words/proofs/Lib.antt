@@ -1,0 +1,13 @@
+pub mod Arithmetic
+pub mod Computing
+pub mod ConvertValues
+pub mod EqualValues
+pub mod LessValues
+pub mod Multiplication
+pub mod Numbers
+pub mod PlacedValues
+pub mod ProductValues
+pub mod RippleCarry
+pub mod SignedOrder
+pub mod UnaryValues
+pub mod WordValues

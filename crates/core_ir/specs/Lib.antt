@@ -1,0 +1,14 @@
+pub mod Cells
+pub mod Places
+pub mod Operations
+pub mod Meaning
+pub mod Calls
+pub mod Joint
+pub mod Inputs
+pub mod Tables
+pub mod Pairing
+pub mod Nodes
+pub mod Fields
+pub mod Fits
+pub mod Laws
+pub mod Examples

@@ -1,0 +1,6 @@
+pub mod Chains
+pub mod Sound
+pub mod Unique
+pub mod Assumed
+pub mod Bounded
+pub mod BudgetLogs

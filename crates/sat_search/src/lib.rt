@@ -1,0 +1,12 @@
+// A search for an assignment, by decisions, unit propagation and clauses learnt from conflicts.
+#![tactic(auto)]
+
+mod found;
+mod learning;
+mod solver;
+
+pub use found::Found;
+pub use solver::search;
+
+#[cfg(test)]
+mod tests;

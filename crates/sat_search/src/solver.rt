@@ -1,0 +1,148 @@
+ghost use Rattle.std.specs.Prelude.{◌≡◌, ◌≢◌, ℕ, ◌+◌, ◌<◌, ◌≤◌, ◌^◌, ◌++◌, length, IfOk, All, slice_index, slice_index_or, vec_len, IsTrue, false, true, pos, Contains, OnOk, ◌↔◌, ◌-◌, [], ◌∷◌};
+ghost use Rattle.clause_db.specs.Log.{literal_lists, results};
+ghost use Rattle.unit_propagation.specs.Quiet.{IsQuiet};
+ghost use Rattle.unit_propagation.specs.Status.{FitsVariables};
+ghost use Rattle.sat_search.specs.Learning.{IsSearching};
+ghost use Rattle.sat_search.specs.Found.{IsFound};
+
+use crate::found::Found;
+use crate::learning::{backjump, learn};
+use clause_db::{Clauses, Log, LogLine, Memory, largest_variable};
+use std::alloc::Global;
+use unit_propagation::{Trail, Value, propagate};
+
+/// The least free variable, or 0.
+fn least_free(trail: &Trail) -> usize
+    requires { 0 < length trail.now.places.items }
+    ensures within { result < length trail.now.places.items }
+    ensures free { 0 < result → slice_index trail.now.places.items result ≡ 0 }
+    ensures none { result ≡ 0 → (v : ℕ) → 0 < v → v < length trail.now.places.items → 0 < slice_index trail.now.places.items v }
+{
+    for v in 1..trail.places.len() {
+        if trail.places[v] == 0 {
+            return v;
+        }
+    }
+    0
+}
+
+/// Makes the least free variable false, and answers whether there was one.
+fn decide(clauses: &Clauses, lines: &[LogLine], trail: &mut Trail) -> Result<bool, Memory>
+    requires variables { 0 < length trail.old.places.items }
+    requires searching { IsSearching (literal_lists clauses.now.list.items ++ results lines.now) trail.old.literals.items trail.old.starts.items trail.old.reasons.items }
+    requires quiet { IsQuiet trail.old.literals.items (literal_lists clauses.now.list.items ++ results lines.now) }
+    ensures searching { IfOk result (λ _. IsSearching (literal_lists clauses.now.list.items ++ results lines.now) trail.new.literals.items trail.new.starts.items trail.new.reasons.items) }
+    ensures longer { IfOk result (λ decided. IsTrue decided → length trail.old.literals.items < length trail.new.literals.items) }
+    ensures none_free { IfOk result (λ decided. decided ≡ false → (v : ℕ) → 0 < v → v < length trail.new.places.items → 0 < slice_index trail.new.places.items v) }
+    ensures unchanged { IfOk result (λ decided. decided ≡ false → trail.new.literals.items ≡ trail.old.literals.items) }
+    ensures variables { length trail.new.places.items ≡ length trail.old.places.items }
+{
+    let v = least_free(trail);
+    if v == 0 {
+        return Ok(false);
+    }
+    trail.open_level()?;
+    trail.push(-(v as i64), 0)?;
+    Ok(true)
+}
+
+/// Is the variable true?
+fn is_true(trail: &Trail, v: usize) -> bool
+    requires positive { 0 < v }
+    requires within { v < length trail.now.places.items }
+    ensures { (result ≡ true) ↔ Contains trail.now.literals.items (pos v) }
+{
+    match trail.value(v as i64) {
+        Value::True => true,
+        Value::False => false,
+        Value::Free => false,
+    }
+}
+
+/// The truth value of each variable from 1 on.
+fn assignment_of(alloc: Global, trail: &Trail) -> Result<Vec<bool>, Memory>
+    requires { 0 < length trail.now.places.items }
+    ensures each_variable { IfOk result (λ values. length values.items + 1 ≡ length trail.now.places.items) }
+    ensures says { IfOk result (λ values. (v : ℕ) → 0 < v → v < length trail.now.places.items → (slice_index_or values.items (v - 1) false ≡ true) ↔ Contains trail.now.literals.items (pos v)) }
+{
+    let mut values = Vec::new(alloc);
+    for v in 1..trail.places.len() {
+        match values.push(is_true(trail, v)) {
+            Ok(()) => {}
+            Err(_) => return Err(Memory),
+        }
+    }
+    Ok(values)
+}
+
+fn push_line(log: &mut Log, line: LogLine) -> Result<(), Memory>
+    ensures { OnOk result (log.new.lines.items ≡ log.old.lines.items ++ line ∷ []) }
+{
+    match log.lines.push(line) {
+        Ok(()) => Ok(()),
+        Err(_) => Err(Memory),
+    }
+}
+
+/// A search over clauses whose variables are at most this one.
+fn search_over(
+    alloc: Global,
+    clauses: &Clauses,
+    variables: u64,
+    limit: u32,
+) -> Result<Found, Memory>
+    requires limit { 0 < limit }
+    requires bounded { variables < 2 ^ 59 }
+    requires fits { FitsVariables (variables + 1) (literal_lists clauses.now.list.items) }
+    ensures { IfOk result (IsFound (literal_lists clauses.now.list.items) variables limit) }
+{
+    let mut trail = Trail::new(alloc, variables as usize)?;
+    let mut log = Log {
+        lines: Vec::new(alloc),
+    };
+    'steps: loop {
+        match propagate(clauses, &log.lines, &mut trail)? {
+            Some(conflict) => {
+                let learnt = learn(alloc, clauses, &log.lines, &trail, conflict)?;
+                let latest = learnt.latest;
+                if latest.last == 0 {
+                    push_line(&mut log, learnt.line)?;
+                    return Ok(Found::Refuted(log));
+                }
+                if log.lines.len() + 1 == limit as usize {
+                    push_line(&mut log, learnt.line)?;
+                    return Ok(Found::Budget(log));
+                }
+                backjump(clauses, &log.lines, &mut trail, &learnt.line.result, latest)?;
+                push_line(&mut log, learnt.line)?;
+            }
+            None => {
+                if !decide(clauses, &log.lines, &mut trail)? {
+                    let values = assignment_of(alloc, &trail)?;
+                    return Ok(Found::Satisfied(values, log.lines.len() as u32));
+                }
+            }
+        }
+    }
+}
+
+/// The larger one of two numbers.
+fn larger(a: u64, b: u64) -> u64
+    ensures first { a ≤ result }
+    ensures second { b ≤ result }
+{
+    if a < b { b } else { a }
+}
+
+/// Looks for an assignment that makes every clause true, up to this many conflicts.
+pub fn search(alloc: Global, clauses: &Clauses, limit: u32) -> Result<Found, Memory>
+    requires { 0 < limit }
+    ensures { IfOk result (IsFound (literal_lists clauses.now.list.items) clauses.now.variables limit) }
+{
+    let variables = larger(clauses.variables, largest_variable(&clauses.list));
+    if variables >= 1 << 59 {
+        return Err(Memory);
+    }
+    let found = search_over(alloc, clauses, variables, limit)?;
+    Ok(found)
+}

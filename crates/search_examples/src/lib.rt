@@ -1,0 +1,5 @@
+// Searches whose logs are checked.
+#![tactic(auto)]
+
+#[cfg(test)]
+mod tests;

@@ -1,0 +1,16 @@
+use Rattle.std.proofs.Common.{◌≤◌, ◌++◌, ◌+◌, ℕ, List, [], subst, sym}
+use Rattle.std.specs.Prelude.{All}
+use Rattle.std.proofs.lemmas.List.{append-nil}
+use Rattle.clause_db.specs.Literal.{variable_of}
+use Rattle.clause_db.specs.Log.{literal_lists}
+use Rattle.clause_db.specs.declared.clause.Clause.{Clause}
+use Rattle.unit_propagation.specs.Status.{FitsVariables}
+use Rattle.unit_propagation.proofs.Fits.{fits_list}
+use Rattle.unit_propagation.proofs.tests.propagated.Goals as goal
+
+pub propagate-requires-clause-fits : goal.propagate-requires-clause-fits
+propagate-requires-clause-fits c =
+    let items : List Clause = c.args.clauses.now.list.items in
+    let largest : ℕ = c.largest_variable-variables.result in
+    let within = subst (λ cs. All (λ x. All (λ l. variable_of l ≤ largest) x) (literal_lists cs)) c.deref.ensures.value c.largest_variable-variables.ensures.within in
+    subst (λ n. FitsVariables n (literal_lists items ++ [])) (sym c.in_ok-trail.ensures.variables) (subst (FitsVariables (largest + 1)) (sym (append-nil (literal_lists items))) (fits_list items largest within))
