@@ -37,11 +37,11 @@ module _ (old new : Program) (twins : Pairing) where
   reported os ns os_is ns_is slice full status l0 l1 l2 l3 l4 counts within closed greatest law pairs_are full_is status_is e0 e1 e2 e3 e4 e =
       let pairs : List PairVerdict = map said slice in
       let are : pairs ≡ pairs_of new.functions twins.functions 0 old.functions =
-          pairs_are ∙ ap (λ (n : List Function). pairs_of n twins.functions 0 os) ns_is ∙ ap (λ (o : List Function). pairs_of new.functions twins.functions 0 o) os_is in
+      pairs_are ∙ ap (λ (n : List Function). pairs_of n twins.functions 0 os) ns_is ∙ ap (λ (o : List Function). pairs_of new.functions twins.functions 0 o) os_is in
       let second : l2 ≡ l1 ++ only_lines (codes "only old: ") new.functions old.functions =
-          e2 ∙ ap (λ (n : List Function). l1 ++ only_lines (codes "only old: ") n os) ns_is ∙ ap (λ (o : List Function). l1 ++ only_lines (codes "only old: ") new.functions o) os_is in
+      e2 ∙ ap (λ (n : List Function). l1 ++ only_lines (codes "only old: ") n os) ns_is ∙ ap (λ (o : List Function). l1 ++ only_lines (codes "only old: ") new.functions o) os_is in
       let third : l3 ≡ l2 ++ only_lines (codes "only new: ") old.functions new.functions =
-          e3 ∙ ap (λ (n : List Function). l2 ++ only_lines (codes "only new: ") os n) ns_is ∙ ap (λ (o : List Function). l2 ++ only_lines (codes "only new: ") o new.functions) os_is in
+      e3 ∙ ap (λ (n : List Function). l2 ++ only_lines (codes "only new: ") os n) ns_is ∙ ap (λ (o : List Function). l2 ++ only_lines (codes "only new: ") o new.functions) os_is in
       let all_is : length slice ≡ length pairs = sym (length-map slice said) in
       let counts_are : counts ≡ counts_of (full_among pairs) (length pairs) = e ∙ ap (λ (n : ℕ). counts_of n (length slice)) full_is ∙ ap (counts_of (full_among pairs)) all_is in
       let text : l4 ≡ report_lines old new twins = text_of pairs l0 l1 l2 l3 l4 counts e0 e1 second third e4 counts_are ∙ ap lines_by are in

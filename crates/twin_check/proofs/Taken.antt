@@ -135,7 +135,7 @@ without_every old new before pairing f g paired no_twins every closed within is_
           let at_f : ArePaired closed.functions f h = subst (λ (n : ℕ). ArePaired closed.functions n h) same in_closed in
           let one : h ≡ g = partner_is_one pairing.functions f h g (inside.functions f h at_f) paired in
           no_twins (subst (λ (n : ℕ). AreTwins pairing (slice_get old.functions f) (slice_get new.functions n)) one
-              (twins_within closed pairing inside (slice_get old.functions f) (slice_get new.functions h) (is_closed f h at_f))))
+          (twins_within closed pairing inside (slice_get old.functions f) (slice_get new.functions h) (is_closed f h at_f))))
           (inside.functions k h in_closed);
       objects = inside.objects;
       structs = inside.structs;

@@ -99,7 +99,11 @@ fn same_function(a: &Function, b: &Function, pairing: &Pairing) -> bool
 pub fn are_twins(old: &Program, other: &Program, pairing: &Pairing, f: usize, g: usize) -> bool
     ensures { IsTrue result ↔ AreTwins pairing.now (slice_get old.now.functions f) (slice_get other.now.functions g) }
 {
-    let Some(a) = old.functions.get(f) else { return false };
-    let Some(b) = other.functions.get(g) else { return false };
+    let Some(a) = old.functions.get(f) else {
+        return false
+    };
+    let Some(b) = other.functions.get(g) else {
+        return false
+    };
     same_function(a, b, pairing)
 }

@@ -19,8 +19,8 @@ loop-i-preserved c =
     let other = c.in-Some.other.now in
     let rest = pairs_of c.args.new.now c.args.twins.now.functions (c.loop-i.i + 1) (drop (c.loop-i.i + 1) c.args.old.now) in
     let added : said c.judged.result ≡ (function.name, verdict_by function other (is_paired c.args.twins.now.functions c.loop-i.i)) =
-        c.judged.ensures ∙ ap (λ (b : Bool). (function.name, verdict_by function other b)) c.is_paired.ensures in
+    c.judged.ensures ∙ ap (λ (b : Bool). (function.name, verdict_by function other b)) c.is_paired.ensures in
     ap (λ (l : List Pair). map said l ++ rest) c.in_ok-push.ensures.items
     ∙ ap (λ (l : List PairVerdict). l ++ rest) (map-append said c.loop-i.pairs.items (c.judged.result ∷ []))
     ∙ with_partner c.args.new.now c.args.old.now c.args.twins.now.functions (map said c.loop-i.pairs.items) _ c.loop-i.i function other (said c.judged.result)
-      c.loop-i-test.true c.index-old-i.is (ap (λ (n : List ℕ). named c.args.new.now n) (sym c.bytes.ensures) ∙ sym c.in-Some.ensures) added c.loop-i.invariant
+    c.loop-i-test.true c.index-old-i.is (ap (λ (n : List ℕ). named c.args.new.now n) (sym c.bytes.ensures) ∙ sym c.in-Some.ensures) added c.loop-i.invariant
