@@ -1,9 +1,9 @@
 -- What the read of one file comes to.
-use Rattle.std.specs.Prelude.{◌≡◌, ℕ, ◌<◌, List, [], ◌∷◌, length, Option, Result, Ok, Err, Vec}
+use Rattle.std.specs.Prelude.{◌≡◌, ℕ, List, [], ◌∷◌, Option, Result, Ok, Err, Vec}
 use Rattle.std.specs.Global.{Global}
 use Rattle.rvt_edge.specs.declared.desk.Action.TheVariants.{Read}
 use Rattle.rvt_edge.specs.declared.desk.Call.{Call}
-use Rattle.rvt_edge.specs.Desk.{Files, IsStartOf, call, failed_call}
+use Rattle.rvt_edge.specs.Desk.{Files, call, failed_call}
 use Rattle.rvt_run.specs.declared.top.Unread.{Unread}
 use Rattle.rvt_run.specs.declared.top.Unread.TheVariants.{Failed, TooLong, Memory}
 use Rattle.rvt_run.specs.Answer.{IsWhole, IsLong, cannot_read, too_long}

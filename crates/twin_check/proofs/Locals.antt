@@ -1,5 +1,5 @@
 -- Lists of locals that are compared from the front.
-use Rattle.std.proofs.Common.{◌≡◌, ◌↔◌, List, [], ◌∷◌, sym, subst}
+use Rattle.std.proofs.Common.{◌≡◌, ◌↔◌, List, ◌∷◌, subst}
 use Rattle.rvt_tree.specs.declared.pairings.Pairing.{Pairing}
 use Rattle.rvt_tree.specs.declared.programs.Local.{Local}
 use Rattle.c_meaning.specs.Twins.{SameLocal, SameLocals}

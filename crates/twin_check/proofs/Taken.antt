@@ -9,7 +9,7 @@ use Rattle.rvt_tree.specs.declared.statements.Stmt.{Stmt}
 use Rattle.rvt_tree.specs.Same.{ArePaired}
 use Rattle.rvt_tree.specs.Views.{stmt_view}
 use Rattle.c_types.specs.Layout.{Shape, AWord, APointer, AnArray, AStruct, shape_of}
-use Rattle.c_meaning.specs.Twins.{SameShape, SameObjectNumber, SameLocal, SameLocals, SameResult, SameBody, SameFunction, AreTwins, IsClosed}
+use Rattle.c_meaning.specs.Twins.{SameShape, SameObjectNumber, SameLocals, SameResult, SameBody, AreTwins}
 use Rattle.twin_check.specs.Sets.{IsWithin, HasEveryClosed, partners}
 use Rattle.twin_check.proofs.Within.{structs_within, pointee_within, statement_within}
 

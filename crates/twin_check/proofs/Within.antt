@@ -1,5 +1,5 @@
 -- What is the same under a pairing is the same under one that pairs more functions.
-use Rattle.std.proofs.Common.{◌≡◌, ℕ, List, [], ◌∷◌, Option, Some, None, subst}
+use Rattle.std.proofs.Common.{ℕ, List, [], ◌∷◌, Option, Some, None, subst}
 use Rattle.rvt_tree.specs.declared.types.Pointee.{Pointee}
 use Rattle.rvt_tree.specs.declared.types.Pointee.TheVariants as P
 use Rattle.rvt_tree.specs.declared.expressions.Variable.{Variable}

@@ -1,4 +1,4 @@
-use Rattle.twin_check.proofs.Taken.{every_trans, within_trans, within_itself}
+use Rattle.twin_check.proofs.Taken.{every_trans, within_trans}
 use Rattle.twin_check.proofs.sets.closed_twins.Goals as goal
 
 pub passes-preserved : goal.passes-preserved

@@ -1,5 +1,4 @@
-use Rattle.std.proofs.Common.{◌≡◌, ◌<◌, ◌≤◌, true, false, ℕ, List, Option, Some, None, length, set, slice_get, subst, sym, ◌∙◌, ap, arith, length-set}
-use Rattle.rvt_tree.specs.declared.pairings.Pairing.{Pairing}
+use Rattle.std.proofs.Common.{◌≡◌, ◌<◌, true, false, ℕ, List, Option, Some, None, length, set, slice_get, subst, sym, ◌∙◌, ap, arith, length-set}
 use Rattle.rvt_tree.specs.Same.{ArePaired}
 use Rattle.c_meaning.specs.Twins.{AreTwins}
 use Rattle.twin_check.specs.Sets.{IsWithin, HasEveryClosed, partners}
