@@ -1,6 +1,6 @@
 -- What a step of spreading keeps, and what holds at its end.
-use Rattle.std.proofs.Common.{◌≡◌, ◌⊎◌, inl, inr, ◌↔◌, ℕ, zero, suc, ◌+◌, ◌<◌, ◌≤◌, Bool, true, false, List, [], ◌∷◌, ◌++◌, length, Option, Some, None, set, take, get_or, replicate, refl, sym, ap, ◌∙◌, arith, subst, length-append}
-use Rattle.call_graph.proofs.Lists.{within, same_at, exists_at, append_keeps, append_new, append_cases, push_new, push_cases, set_new, set_keeps, set_cases}
+use Rattle.std.proofs.Common.{◌≡◌, ◌⊎◌, inl, inr, ◌↔◌, ℕ, zero, suc, ◌+◌, ◌<◌, Bool, true, false, List, [], ◌∷◌, ◌++◌, length, Option, Some, set, take, get_or, replicate, refl, sym, ap, ◌∙◌, arith, subst, length-append}
+use Rattle.call_graph.proofs.Lists.{within, same_at, append_keeps, append_new, append_cases, push_new, push_cases, set_new, set_keeps, set_cases}
 use Rattle.call_graph.specs.Graphs.{At, Edge, IsGraph}
 use Rattle.graph_marks.specs.Marks.{Spreads, seed, passed, Stands, AreSeeds, IsSpread, unmarked_work, work}
 

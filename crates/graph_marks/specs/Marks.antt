@@ -1,5 +1,5 @@
 -- Marks that spread along the edges of a graph, and stop before blocked vertices.
-use Rattle.std.specs.Prelude.{◌≡◌, ◌⊎◌, ◌↔◌, ℕ, ◌+◌, ◌<◌, Bool, true, false, List, [], ◌∷◌, length}
+use Rattle.std.specs.Prelude.{◌≡◌, ◌⊎◌, ◌↔◌, ℕ, ◌+◌, ◌<◌, Bool, true, false, List, ◌∷◌, length}
 use Rattle.call_graph.specs.Graphs.{At, Edge}
 
 -- a mark comes to the vertex

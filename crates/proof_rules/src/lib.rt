@@ -6,4 +6,4 @@ mod settlements;
 #[cfg(test)]
 mod tests;
 
-pub use settlements::{ClaimList, Gone, Log, Memory, Settlement, Side, Stay, claims};
+pub use settlements::{ClaimList, Gone, Memory, Settlement, Side, Stay, claims};

@@ -1,4 +1,5 @@
-use crate::{Gone, Log, Settlement, Side, Stay, claims};
+use crate::{Gone, Settlement, Side, Stay, claims};
+use clause_db::Log;
 use std::test::Fail;
 
 #[test]
@@ -11,7 +12,7 @@ fn pairs_that_stay_are_claimed(rt: HostRuntime) -> Result<(), Fail> {
     stay.push((
         1,
         Stay::Proved(Log {
-            results: Vec::new(alloc),
+            lines: Vec::new(alloc),
         }),
     ))?;
     let mut full = Vec::new(alloc);

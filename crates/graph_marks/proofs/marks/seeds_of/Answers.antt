@@ -1,4 +1,4 @@
-use Rattle.std.proofs.Common.{◌≡◌, ℕ, ◌+◌, List, take, sym, subst}
+use Rattle.std.proofs.Common.{ℕ, ◌+◌, List, take, sym, subst}
 use Rattle.std.proofs.lemmas.List.{take_all}
 use Rattle.graph_marks.specs.Marks.{AreSeeds}
 use Rattle.graph_marks.proofs.Spreading.{seeds_more, seeds_same}

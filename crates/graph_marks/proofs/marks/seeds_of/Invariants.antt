@@ -1,4 +1,4 @@
-use Rattle.std.proofs.Common.{◌≡◌, true, take}
+use Rattle.std.proofs.Common.{take}
 use Rattle.graph_marks.specs.Marks.{AreSeeds}
 use Rattle.graph_marks.proofs.marks.seeds_of.Given as goal
 

@@ -1,10 +1,10 @@
-use Rattle.std.proofs.Common.{◌≡◌, ℕ, ◌+◌, ◌++◌, ◌∷◌, [], ◌<◌, true, false, Bool, List, Vec, length, set, get_or, sym, ap, ◌∙◌, subst, arith, length-append}
+use Rattle.std.proofs.Common.{◌≡◌, ℕ, ◌++◌, ◌∷◌, [], ◌<◌, true, false, Bool, List, Vec, length, set, sym, ap, ◌∙◌, subst, arith}
 use Rattle.std.specs.Global.{Global}
 use Rattle.std.proofs.lemmas.List.{length-map}
 use Rattle.call_graph.proofs.Lists.{row_at}
 use Rattle.call_graph.specs.Graphs.{At, rows}
-use Rattle.graph_marks.proofs.Spreading.{read, last_fits, dropped_blocked, dropped_marked, marked, less_dropped, less_spread, begun, ended, no_pending}
-use Rattle.graph_marks.specs.Marks.{IsSpread, work, unmarked_work}
+use Rattle.graph_marks.proofs.Spreading.{read, last_fits, dropped_blocked, dropped_marked, marked, less_spread, begun, ended, no_pending}
+use Rattle.graph_marks.specs.Marks.{IsSpread}
 use Rattle.graph_marks.proofs.marks.spread.Goals as goal
 
 -- the number of rows
