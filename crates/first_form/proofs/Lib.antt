@@ -1,0 +1,6 @@
+mod Named
+mod Lists
+mod TokenTexts
+mod Keys
+mod Facts
+mod Closed

@@ -1,0 +1,108 @@
+//! The program of a file.
+
+ghost use Rattle.std.specs.Prelude.{◌≡◌, ◌≤◌, [], length, map, All, Err, IfOk};
+ghost use Rattle.first_form.specs.Texts.{HasNoLineEnd};
+ghost use Rattle.first_form.specs.declared.refused.Refused.TheVariants.{Form};
+ghost use Rattle.first_form.specs.Actions.{nothing_read};
+ghost use Rattle.first_form.specs.Shown.{reading, Follows};
+ghost use Rattle.first_form.specs.Source as spec;
+ghost use Rattle.first_form.specs.Source.{IsReading, HasNoReading, after_steps};
+
+use crate::classes::{terminals, text};
+use crate::grammar::{Action, FirstForm};
+use crate::refused::Refused;
+use crate::translation::Translation;
+use c_lexer::{Token, TokenClass, lex};
+use c_parser::{Step, parse};
+use rvt_tree::{Function, Program, Structs, Table};
+use sqlite_items::Items;
+use std::alloc::Global;
+
+/// The most tokens that a file may have.
+const MAX_TOKENS: usize = 200_000;
+
+/// The program that a file of the first form is. It is refused where it is no such file.
+pub fn read(alloc: Global, bytes: &[u8]) -> Result<Program, Refused>
+    ensures program { IfOk result (IsReading bytes.now) }
+    ensures refused { result ≡ Err Form → HasNoReading bytes.now }
+    ensures few { IfOk result (λ program. length program.functions ≤ 1000) }
+    ensures names { IfOk result (λ program. All (λ f. HasNoLineEnd f.name) program.functions) }
+{
+    let tokens = match lex(alloc, bytes) {
+        Ok(tokens) => tokens,
+        Err(c_lexer::Fault::Memory) => return Err(Refused::Memory),
+        Err(c_lexer::Fault::Refused(_, _)) => return Err(Refused::Form),
+    };
+    if tokens.len() > MAX_TOKENS {
+        return Err(Refused::Form);
+    }
+    let terminals = terminals(alloc, bytes, &tokens)?;
+    let steps = match parse::<FirstForm>(alloc, &terminals) {
+        Ok(steps) => steps,
+        Err(c_parser::Fault::Memory) => return Err(Refused::Memory),
+        Err(c_parser::Fault::Refused(_, _)) => return Err(Refused::Form),
+    };
+    let mut translation = Translation::new(alloc);
+    translate(alloc, bytes, &tokens, &steps, &mut translation)?;
+    let Translation { functions, .. } = translation;
+    Ok(program_of(alloc, functions))
+}
+
+/// Makes what the steps say of the tokens.
+fn translate<'a>(
+    alloc: Global,
+    bytes: &'a [u8],
+    tokens: &[Token],
+    steps: &[Step<Action>],
+    translation: &mut Translation<'a>,
+) -> Result<(), Refused>
+    ensures { Follows result (reading translation.new) (after_steps bytes.now tokens.now [] 0 steps.now (reading translation.old)) }
+{
+    let mut tokens = tokens;
+    let mut read: &'a [u8] = b"";
+    let mut value = 0;
+    let mut steps = steps;
+    'steps: while let [step, later @ ..] = steps {
+        match *step {
+            Step::Token => match tokens {
+                [] => return Err(Refused::Form),
+                [token, left @ ..] => {
+                    read = text(bytes, token);
+                    value = value_of(token.class);
+                    tokens = left;
+                }
+            },
+            Step::Make(action) => translation.make(alloc, action, read, value)?,
+        }
+        steps = later;
+    }
+    Ok(())
+}
+
+fn value_of(class: TokenClass) -> u32
+    ensures { result ≡ spec.value_of class }
+{
+    match class {
+        TokenClass::Constant(value) => value,
+        TokenClass::Word => 0,
+        TokenClass::Keyword(_) => 0,
+        TokenClass::Punct(_) => 0,
+    }
+}
+
+/// A program of these functions alone.
+fn program_of(alloc: Global, functions: Vec<Function>) -> Program
+    ensures functions { result.functions ≡ functions.items }
+    ensures structs { result.structs.list ≡ [] }
+    ensures objects { result.table.objects ≡ [] }
+{
+    Program {
+        structs: Structs {
+            list: Items::new(alloc),
+        },
+        functions: Items::from_vec(functions),
+        table: Table {
+            objects: Items::new(alloc),
+        },
+    }
+}

@@ -1,0 +1,152 @@
+-- Each line of an answer is one line.
+use Rattle.std.proofs.Common.{◌≡◌, ◌≢◌, ℕ, zero, suc, ◌+◌, ◌-◌, ◌*◌, ◌^◌, ◌<◌, ◌≤◌, Bool, true, false, if◌then◌else◌, List, [], ◌∷◌, ◌++◌, length, Option, Some, None, refl, sym, ◌∙◌, ap, subst, arith, append_assoc}
+use Rattle.std.specs.Prelude.{◌==◌, codes, cond, All}
+use Rattle.std.specs.Fmt.{decimal}
+use Rattle.std.specs.Option.{is_none}
+use Rattle.std.proofs.lemmas.Bool.{eqb-true}
+use Rattle.std.proofs.lemmas.Fmt.{decimal_is_IsNumeral}
+use Rattle.std.specs.Str.Parse.{AllDigits, digit_value}
+use Rattle.std.proofs.lemmas.List.Elements.{All-nil, All-cons, All-append}
+use Rattle.rvt_tree.specs.declared.pairings.Pairing.{Pairing}
+use Rattle.rvt_tree.specs.declared.programs.Function.{Function}
+use Rattle.rvt_tree.specs.declared.programs.Program.{Program}
+use Rattle.rvt_run.specs.declared.lines.Verdict.{Verdict}
+use Rattle.rvt_run.specs.declared.lines.Verdict.TheVariants.{Twin, Interface, Bodies}
+use Rattle.first_form.specs.Texts.{HasNoLineEnd}
+use Rattle.rvt_run.specs.Answer.{IsLine, line}
+use Rattle.rvt_run.specs.Names.{function_number, named}
+use Rattle.rvt_run.specs.Report.{PairVerdict, verdict_by, verdict_text, paired_before, pairs_of, pair_line, pair_lines, only_lines, counts_text, counts_of, full_among, is_full, report_lines}
+use Rattle.rvt_run.specs.Twins.{is_paired}
+use Rattle.rvt_run.specs.Words.{IsPlain}
+
+-- ---- texts without line ends
+
+other_byte : (byte : ℕ) → byte ≢ 10 → (byte == 10) ≡ false
+other_byte byte apart = cases (byte == 10) refl
+  where
+    cases : (b : Bool) → (byte == 10) ≡ b → b ≡ false
+    cases false is = refl
+    cases true is = absurd (apart (eqb-true byte 10 is))
+
+pub joined : (a b : List ℕ) → HasNoLineEnd a → HasNoLineEnd b → HasNoLineEnd (a ++ b)
+joined [] b none none' = none'
+joined (x ∷ a) b none none' = (none.0, joined a b none.1 none')
+
+-- the test by computing
+abbrev one_line_text : List ℕ → Bool
+one_line_text [] = true
+one_line_text (b ∷ bytes) = if b == 10 then false else one_line_text bytes
+
+pub literal : (text : List ℕ) → one_line_text text ≡ true → HasNoLineEnd text
+literal [] yes_ = tt
+literal (b ∷ bytes) is = cases (b == 10) refl (literal bytes)
+  where
+    cases : (c : Bool) → (b == 10) ≡ c → (one_line_text bytes ≡ true → HasNoLineEnd bytes) → HasNoLineEnd (b ∷ bytes)
+    cases true found later = let wrong : false ≡ true = sym (ap (λ (c : Bool). if c then false else one_line_text bytes) found) ∙ is in cc
+    cases false found later = (found, later (sym (ap (λ (c : Bool). if c then false else one_line_text bytes) found) ∙ is))
+
+digits_none : (bytes : List ℕ) → AllDigits 10 bytes → HasNoLineEnd bytes
+digits_none [] all = tt
+digits_none (b ∷ bytes) all = (other_byte b (λ ten. no_digit b ten all.0), digits_none bytes all.1)
+  where
+    no_digit : (b : ℕ) → b ≡ 10 → digit_value b < 10 → ⊥
+    no_digit b ten low = let bad : digit_value 10 < 10 = subst (λ (n : ℕ). digit_value n < 10) ten low in omega (arith, bad)
+
+pub number_none : (n : ℕ) → n < 2 ^ 64 → HasNoLineEnd (decimal n)
+number_none n low = digits_none (decimal n) (decimal_is_IsNumeral n low).0.1
+
+-- a word that may name a file
+printing_none : (word : List ℕ) → All (λ byte. (32 ≤ byte) × (byte ≢ 127)) word → HasNoLineEnd word
+printing_none [] all = tt
+printing_none (b ∷ word) all =
+    let first : 32 ≤ b = (all 0 b (omega arith)).0 in
+    (other_byte b (λ ten. omega (arith, ten, first)), printing_none word (λ k d h. all (suc k) d (omega (arith, h))))
+
+pub plain_none : (word : List ℕ) → IsPlain word → HasNoLineEnd word
+plain_none word plain = printing_none word plain.printing
+
+-- ---- lines
+
+pub line_of : (first second : List ℕ) → HasNoLineEnd first → HasNoLineEnd second → IsLine (line first second)
+line_of first second none none' = record {
+  body = first ++ second;
+  ended = sym (append_assoc first second (10 ∷ []));
+  one = joined first second none none';
+}
+
+pub only_this : (bytes : List ℕ) → IsLine bytes → All IsLine (bytes ∷ [])
+only_this bytes is = All-cons IsLine bytes [] is (All-nil IsLine)
+
+verdict_none : (verdict : Verdict) → HasNoLineEnd (verdict_text verdict)
+verdict_none Twin = literal (codes ": fully equivalent, twin") refl
+verdict_none Interface = literal (codes ": unknown, interface") refl
+verdict_none Bodies = literal (codes ": unknown, bodies differ") refl
+
+-- no name of the functions has a line end
+abbrev pub NamesNone : List Function → Type 0
+NamesNone = All (λ f. HasNoLineEnd f.name)
+
+rest_none : (f : Function) (fs : List Function) → NamesNone (f ∷ fs) → NamesNone fs
+rest_none f fs none k d h = none (suc k) d (omega (arith, h))
+
+first_none : (f : Function) (fs : List Function) → NamesNone (f ∷ fs) → HasNoLineEnd f.name
+first_none f fs none = none 0 f (omega arith)
+
+pairs_shaped : (new : List Function) (twins : List (Option ℕ)) (i : ℕ) (fs : List Function) → NamesNone fs → All IsLine (pair_lines (pairs_of new twins i fs))
+pairs_shaped new twins i [] none = All-nil IsLine
+pairs_shaped new twins i (f ∷ fs) none = cases (named new f.name) (pairs_shaped new twins (i + 1) fs (rest_none f fs none))
+  where
+    cases : (partner : Option Function) → All IsLine (pair_lines (pairs_of new twins (i + 1) fs)) → All IsLine (pair_lines (paired_before f partner (is_paired twins i) (pairs_of new twins (i + 1) fs)))
+    cases None rest = rest
+    cases (Some g) rest =
+        All-cons IsLine (pair_line (f.name, verdict_by f g (is_paired twins i))) (pair_lines (pairs_of new twins (i + 1) fs))
+        (line_of f.name (verdict_text (verdict_by f g (is_paired twins i))) (first_none f fs none) (verdict_none (verdict_by f g (is_paired twins i))))
+        rest
+
+only_shaped : (word : List ℕ) → HasNoLineEnd word → (others fs : List Function) → NamesNone fs → All IsLine (only_lines word others fs)
+only_shaped word plain others [] none = All-nil IsLine
+only_shaped word plain others (f ∷ fs) none = cases (is_none (function_number others f.name)) (only_shaped word plain others fs (rest_none f fs none))
+  where
+    cases : (b : Bool) → All IsLine (only_lines word others fs) → All IsLine (cond b ((word ++ f.name ++ 10 ∷ []) ∷ only_lines word others fs) (only_lines word others fs))
+    cases true more = All-cons IsLine (word ++ f.name ++ 10 ∷ []) (only_lines word others fs) (line_of word f.name plain (first_none f fs none)) more
+    cases false more = more
+
+-- ---- counts
+
+pairs_few : (new : List Function) (twins : List (Option ℕ)) (i : ℕ) (fs : List Function) → length (pairs_of new twins i fs) ≤ length fs
+pairs_few new twins i [] = omega arith
+pairs_few new twins i (f ∷ fs) = cases (named new f.name) (pairs_few new twins (i + 1) fs)
+  where
+    cases : (partner : Option Function) → length (pairs_of new twins (i + 1) fs) ≤ length fs → length (paired_before f partner (is_paired twins i) (pairs_of new twins (i + 1) fs)) ≤ suc (length fs)
+    cases None rest = omega (arith, rest)
+    cases (Some g) rest = omega (arith, rest)
+
+full_few : (pairs : List PairVerdict) → full_among pairs ≤ length pairs
+full_few [] = omega arith
+full_few (pair ∷ rest) = cases (is_full pair.1) (full_few rest)
+  where
+    cases : (b : Bool) → full_among rest ≤ length rest → cond b 1 0 + full_among rest ≤ suc (length rest)
+    cases true low = omega (arith, low)
+    cases false low = omega (arith, low)
+
+counts_shaped : (full all : ℕ) → full ≤ all → all ≤ 1000 → IsLine (counts_of full all)
+counts_shaped full all low few =
+    line_of (codes "pairs ") (counts_text full all) (literal (codes "pairs ") refl)
+    (joined (decimal all) (codes " full " ++ (decimal full ++ (codes " partial 0 different 0 unknown " ++ decimal (all - full)))) (number_none all (omega (arith, few)))
+    (joined (codes " full ") (decimal full ++ (codes " partial 0 different 0 unknown " ++ decimal (all - full))) (literal (codes " full ") refl)
+    (joined (decimal full) (codes " partial 0 different 0 unknown " ++ decimal (all - full)) (number_none full (omega (arith, low, few)))
+    (joined (codes " partial 0 different 0 unknown ") (decimal (all - full)) (literal (codes " partial 0 different 0 unknown ") refl) (number_none (all - full) (omega (arith, few)))))))
+
+-- each line of a report
+pub report_shaped : (old new : Program) (twins : Pairing) → NamesNone old.functions → NamesNone new.functions → length old.functions ≤ 1000 → All IsLine (report_lines old new twins)
+report_shaped old new twins olds news few =
+    let pairs = pairs_of new.functions twins.functions 0 old.functions in
+    let only_old = only_lines (codes "only old: ") new.functions old.functions in
+    let only_new = only_lines (codes "only new: ") old.functions new.functions in
+    let counts = counts_of (full_among pairs) (length pairs) in
+    let first : All IsLine (pair_lines pairs) = pairs_shaped new.functions twins.functions 0 old.functions olds in
+    let second : All IsLine only_old = only_shaped (codes "only old: ") (literal (codes "only old: ") refl) new.functions old.functions olds in
+    let third : All IsLine only_new = only_shaped (codes "only new: ") (literal (codes "only new: ") refl) old.functions new.functions news in
+    let within : length pairs ≤ length old.functions = pairs_few new.functions twins.functions 0 old.functions in
+    let last : IsLine counts = counts_shaped (full_among pairs) (length pairs) (full_few pairs) (omega (arith, within, few)) in
+    All-append IsLine (pair_lines pairs ++ only_old ++ only_new) (counts ∷ []) (All-append IsLine (pair_lines pairs ++ only_old) only_new (All-append IsLine (pair_lines pairs) only_old first second) third) (only_this counts last)

@@ -1,0 +1,90 @@
+-- What a run writes says nothing false.
+use Rattle.std.proofs.Common.{◌≡◌, ℕ, zero, suc, ◌<◌, ◌≤◌, List, [], ◌∷◌, ◌++◌, take, length, Option, Some, None, refl, sym, ◌∙◌, ap, subst, inl, inr, arith, append_assoc}
+use Rattle.std.specs.Prelude.{codes, All}
+use Rattle.std.specs.List.{concat, Contains}
+use Rattle.std.proofs.lemmas.List.{append_cancel_left, append-nil}
+use Rattle.std.proofs.Math.Seq.{take-length}
+use Rattle.std.proofs.lemmas.List.Elements.{All-contains}
+use Rattle.std.proofs.Math.Nat.{eq-or-lt_of_le}
+use Rattle.rvt_edge.specs.declared.desk.Call.{Call}
+use Rattle.rvt_edge.specs.Desk.{Files}
+use Rattle.rvt_edge.specs.Sink.{Grows, GrowsByPart}
+use Rattle.rvt_run.specs.Answer.{Answers, refused, old_fault, old_long, new_fault, new_long, compared, Compares, old_refused, new_refused, reported, Writes, IsWhole, IsLine, line, no_command, cannot_read, too_long, not_of_form}
+use Rattle.rvt_run.specs.Headline.{lines_of, SaysFullTruly, IsFullInFiles}
+use Rattle.rvt_run.specs.Report.{IsName, IsTrueLine, full_line, IsFullPair}
+use Rattle.rvt_run.specs.Words.{IsCompare}
+use Rattle.rvt_run.proofs.Split.{lines_of_concat, line_of_part}
+use Rattle.rvt_run.proofs.Truth.{same_end}
+
+-- a line that ends otherwise isn't that of a full pair
+other_end : (front name : List ℕ) (byte : ℕ) → front ++ byte ∷ 10 ∷ [] ≡ full_line name → byte ≡ 110
+other_end front name byte e = same_end front (name ++ codes ": fully equivalent, twi") byte 110 (e ∙ sym (append_assoc name (codes ": fully equivalent, twi") (110 ∷ 10 ∷ [])) )
+
+-- one line whose text ends otherwise
+lone : (first front : List ℕ) (byte : ℕ) (name : List ℕ) → (byte ≡ 110 → ⊥) → Contains ((first ++ front ++ byte ∷ 10 ∷ []) ∷ []) (full_line name) → ⊥
+lone first front byte name apart among = cases among.0 among.1 among.2
+  where
+    cases : (k : ℕ) → k < 1 → _ → ⊥
+    cases zero low is = apart (other_end (first ++ front) name byte (append_assoc first front (byte ∷ 10 ∷ []) ∙ is))
+    cases (suc k) low is = omega (arith, low)
+
+-- where a line of the answer says that a pair is fully equivalent, it is
+pub answer_true : (words : List (List ℕ)) (files : Option Files) (calls : List Call) (status : ℕ) (lines : List (List ℕ)) (name : List ℕ) → Answers words files calls status lines → IsName name →
+    Contains lines (full_line name) → IsFullInFiles words files name
+answer_true words files calls status lines name (refused absent) is_name among = absurd (lone [] (codes "rvt: the words are no comman") 100 name (λ e. omega (arith, e)) among)
+answer_true words files calls status lines name (old_fault old new is) is_name among = absurd (lone old (codes ": cannot rea") 100 name (λ e. omega (arith, e)) among)
+answer_true words files calls status lines name (old_long old new is long) is_name among = absurd (lone old (codes ": too lon") 103 name (λ e. omega (arith, e)) among)
+answer_true words files calls status lines name (new_fault old new bytes is whole) is_name among = absurd (lone new (codes ": cannot rea") 100 name (λ e. omega (arith, e)) among)
+answer_true words files calls status lines name (new_long old new bytes is whole long) is_name among = absurd (lone new (codes ": too lon") 103 name (λ e. omega (arith, e)) among)
+answer_true words files calls status lines name (compared old new old_bytes new_bytes is old_told new_told compares) is_name among = by status lines compares among
+  where
+    by : (status : ℕ) (lines : List (List ℕ)) → Compares old new old_bytes new_bytes status lines → Contains lines (full_line name) → IsFullInFiles words files name
+    by status lines (old_refused none) among = absurd (lone old (codes ": not of the first for") 109 name (λ e. omega (arith, e)) among)
+    by status lines (new_refused p read none) among = absurd (lone new (codes ": not of the first for") 109 name (λ e. omega (arith, e)) among)
+    by status lines (reported p q p_read q_read report) among = record {
+      old_name = old;
+      new_name = new;
+      command = is;
+      old_bytes = old_bytes;
+      new_bytes = new_bytes;
+      old_told = old_told;
+      new_told = new_told;
+      old = p;
+      new = q;
+      old_read = p_read;
+      new_read = q_read;
+      pair = All-contains (IsTrueLine p q) lines (full_line name) report.truth among name is_name refl;
+    }
+
+-- what was written behind these bytes
+piece_is : (written text piece : List ℕ) → Some (written ++ text) ≡ Some (written ++ piece) → text ≡ piece
+piece_is written text piece e = let same : written ++ text ≡ written ++ piece = cc in append_cancel_left written text piece same
+
+-- a whole answer, or a first part of one
+pub spoken : (words : List (List ℕ)) (files : Option Files) (calls : List Call) (status result faults now : ℕ) (lines : List (List ℕ)) (before after : Option (List ℕ)) →
+    Answers words files calls status lines → All IsLine lines → faults ≤ now → Writes before after faults now result status (concat lines) → SaysFullTruly words files before after
+spoken words files calls status result faults now lines before after answers shaped later writes written text name begun ended is_name among =
+    answer_true words files calls status lines name answers is_name in_lines
+  where
+    part : (n : ℕ) × (text ≡ take n (concat lines))
+    part = elim (eq-or-lt_of_le later) [
+      | inl same ↦ (let grown : Grows before after (concat lines) = (writes.whole (sym same)).1 in
+          let told : Grows (Some written) after (concat lines) = subst (λ (o : Option (List ℕ)). Grows o after (concat lines)) begun grown in
+          (length (concat lines), piece_is written text (concat lines) (sym ended ∙ told) ∙ sym (take-length (concat lines))))
+      | inr rose ↦ (let grown : GrowsByPart before after (concat lines) = (writes.cut rose).1 in
+          let told : Grows (Some written) after (take grown.0 (concat lines)) = subst (λ (o : Option (List ℕ)). Grows o after (take grown.0 (concat lines))) begun grown.1 in
+          (grown.0, piece_is written text (take grown.0 (concat lines)) (sym ended ∙ told)))
+    ]
+
+    in_lines : Contains lines (full_line name)
+    in_lines =
+        let of_part : Contains (lines_of (take part.0 (concat lines))) (full_line name) = subst (λ (t : List ℕ). Contains (lines_of t) (full_line name)) part.1 among in
+        subst (λ (ls : List (List ℕ)). Contains ls (full_line name)) (lines_of_concat lines shaped) (line_of_part part.0 (concat lines) [] (full_line name) of_part)
+
+-- nothing was written
+pub silent : (words : List (List ℕ)) (files : Option Files) (before : Option (List ℕ)) → SaysFullTruly words files before before
+silent words files before written text name begun ended is_name among =
+    let same : Some (written ++ text) ≡ Some (written ++ []) = sym ended ∙ begun ∙ ap Some (sym (append-nil written)) in
+    let none : text ≡ [] = piece_is written text [] same in
+    let no : Contains (lines_of []) (full_line name) = subst (λ (t : List ℕ). Contains (lines_of t) (full_line name)) none among in
+    absurd (omega (arith, no.1))
