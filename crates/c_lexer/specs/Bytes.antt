@@ -1,5 +1,5 @@
 -- Kinds of bytes, and places.
-use Rattle.std.specs.Prelude.{ℕ, ◌+◌, Bool, false, not, ◌&&◌, ◌||◌, ◌==◌, nat_le, List, [], ◌∷◌, count_by, reverse}
+use Rattle.std.specs.Prelude.{ℕ, ◌+◌, Bool, not, ◌&&◌, ◌||◌, ◌==◌, nat_le, List, count_by, reverse}
 use Rattle.std.specs.List.{prefix_len}
 use Rattle.c_lexer.specs.declared.tokens.Place.{Place}
 

@@ -1,5 +1,5 @@
 -- Which texts are tokens, and where a token ends.
-use Rattle.std.specs.Prelude.{◌≡◌, ℕ, ◌+◌, ◌-◌, ◌*◌, ◌<◌, Bool, true, false, not, ◌&&◌, ◌||◌, ◌==◌, nat_le, if◌then◌else◌, List, [], ◌∷◌, ◌++◌, length, fold, Option, Some, None, codes}
+use Rattle.std.specs.Prelude.{◌≡◌, ℕ, ◌+◌, ◌-◌, ◌*◌, ◌<◌, Bool, true, false, not, ◌&&◌, ◌||◌, ◌==◌, nat_le, if◌then◌else◌, List, [], ◌∷◌, ◌++◌, length, fold, Option, Some, None}
 use Rattle.std.specs.List.{list_all}
 use Rattle.std.specs.Option.{option_map}
 use Rattle.c_lexer.specs.declared.tokens.Keyword.{Keyword}
@@ -19,10 +19,14 @@ is_decimal [] = false
 is_decimal (byte ∷ []) = is_digit byte
 is_decimal (byte ∷ bytes) = is_digit byte && not (byte == 48) && list_all is_digit bytes
 
-abbrev pub decimal_value : List ℕ → ℕ
-decimal_value = fold (λ value digit. value * 10 + (digit - 48)) 0
+-- one more digit behind a number
+abbrev pub add_digit : ℕ → ℕ → ℕ
+add_digit value digit = value * 10 + (digit - 48)
 
--- an integer constant, whose type is `int`
+abbrev pub decimal_value : List ℕ → ℕ
+decimal_value = fold add_digit 0
+
+-- an integer constant that an `int` holds
 abbrev pub is_constant : List ℕ → Bool
 is_constant text = is_decimal text && nat_le (decimal_value text) 2147483647
 

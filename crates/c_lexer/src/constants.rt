@@ -1,9 +1,8 @@
 //! Integer constants (C 6.4.4.1).
 
-ghost use Rattle.std.specs.Prelude.{◌≡◌, ◌&&◌, nat_le, if◌then◌else◌, Some, None};
-ghost use Rattle.std.specs.List.{list_all};
-ghost use Rattle.c_lexer.specs.Bytes as bytes;
+ghost use Rattle.std.specs.Prelude.{◌≡◌, if◌then◌else◌, Some, None};
 ghost use Rattle.c_lexer.specs.Classes.{is_constant, decimal_value};
+ghost use Rattle.c_lexer.specs.Fronts.{digits_from};
 
 use crate::bytes::is_digit;
 
@@ -24,7 +23,7 @@ pub fn constant(text: &[u8]) -> Option<u32>
 
 /// The value of digits, where it is small enough.
 fn digits_value(text: &[u8]) -> Option<u32>
-    ensures { result ≡ (if list_all bytes.is_digit text.now && nat_le (decimal_value text.now) 2147483647 then Some (decimal_value text.now) else None) }
+    ensures { result ≡ digits_from 0 text.now }
 {
     let mut value: u64 = 0;
     'digits: for byte in text {

@@ -4,7 +4,7 @@ ghost use Rattle.std.specs.Prelude.{◌≡◌, ◌<◌, ◌≤◌, true, false, 
 ghost use Rattle.std.specs.List.{prefix_len};
 ghost use Rattle.c_lexer.specs.Bytes as bytes;
 ghost use Rattle.c_lexer.specs.Tables.{keyword_of, written_so};
-ghost use Rattle.c_lexer.specs.Classes.{BeginsNoToken};
+ghost use Rattle.c_lexer.specs.Classes.{BeginsNoToken, goes_on, name_class};
 ghost use Rattle.c_lexer.specs.Fronts.{IsFront, first_front};
 ghost use Rattle.c_lexer.specs.Spells.{cause_at};
 
@@ -40,14 +40,14 @@ pub fn first_token(text: &[u8]) -> Result<Front, Cause>
 
 /// How many name bytes stand at the front.
 fn name_length(text: &[u8]) -> usize
-    ensures { result ≡ prefix_len bytes.is_name_byte text.now }
+    ensures count { result ≡ prefix_len bytes.is_name_byte text.now }
+    ensures within { result ≤ length text.now }
 {
-    for (i, byte) in text.iter().enumerate() {
-        if !is_name_byte(*byte) {
-            return i;
-        }
+    let mut length = 0;
+    while length < text.len() && is_name_byte(text[length]) {
+        length += 1;
     }
-    text.len()
+    length
 }
 
 /// A keyword or a word.
@@ -57,11 +57,17 @@ fn name(text: &[u8]) -> Front
     ensures { IsFront text.now result }
 {
     let length = name_length(text);
-    let class = match keyword(&text[..length]) {
+    let class = name_class(keyword(&text[..length]));
+    Front { class, length }
+}
+
+fn name_class(keyword: Option<Keyword>) -> TokenClass
+    ensures { result ≡ name_class keyword }
+{
+    match keyword {
         Some(keyword) => TokenClass::Keyword(keyword),
         None => TokenClass::Word,
-    };
-    Front { class, length }
+    }
 }
 
 fn keyword(text: &[u8]) -> Option<Keyword>
@@ -90,14 +96,26 @@ fn number(text: &[u8]) -> Option<Front>
     ensures none { IfNone result (BeginsNoToken text.now) }
 {
     let length = name_length(text);
-    if length < text.len() && text[length] == b'.' {
+    if goes_on(&text[length..]) {
         return None;
     }
-    let value = constant(&text[..length])?;
-    Some(Front {
-        class: TokenClass::Constant(value),
-        length,
-    })
+    match constant(&text[..length]) {
+        Some(value) => Some(Front {
+            class: TokenClass::Constant(value),
+            length,
+        }),
+        None => None,
+    }
+}
+
+/// Whether a constant can't end before these bytes.
+fn goes_on(rest: &[u8]) -> bool
+    ensures { result ≡ goes_on rest.now }
+{
+    match rest {
+        [byte, ..] => is_name_byte(*byte) || *byte == b'.',
+        [] => false,
+    }
 }
 
 /// The longest punctuator.
