@@ -1,7 +1,9 @@
 -- What holds while a file is read.
-use Rattle.std.proofs.Common.{◌≡◌, ℕ, ◌+◌, ◌<◌, ◌≤◌, true, false, List, [], ◌∷◌, ◌++◌, length, get_or, take, drop, refl, sym, ap, ◌∙◌, subst, arith, append_assoc}
+use Rattle.std.specs.Prelude.{All}
+use Rattle.std.proofs.Common.{◌≡◌, ℕ, ◌-◌, ◌+◌, ◌<◌, ◌≤◌, true, false, List, [], ◌∷◌, ◌++◌, length, get_or, take, drop, refl, sym, ap, ◌∙◌, subst, arith, append_assoc}
 use Rattle.std.proofs.lemmas.Bool.{both_ways}
-use Rattle.std.proofs.lemmas.List.{append-nil, append_cancel_left, length-append, length-take-le, length-drop, drop_more, take_more, drop_all, take-append-drop, drop-drop}
+use Rattle.std.proofs.lemmas.List.{append-nil, append_cancel_left, length-append, length-take-le, length-drop, drop_more, take_more, drop_all, take-append-drop, drop-drop, take_at, drop_at}
+use Rattle.std.proofs.lemmas.List.Elements.{All-nil, All-cons}
 use Rattle.std.proofs.Math.Seq.{take-add}
 use Rattle.c_lexer.specs.declared.faults.Cause.{Cause}
 use Rattle.c_lexer.specs.declared.faults.Fault.TheVariants.{Refused}
@@ -10,7 +12,7 @@ use Rattle.c_lexer.specs.declared.tokens.Place.{Place}
 use Rattle.c_lexer.specs.declared.tokens.Token.{Token}
 use Rattle.c_lexer.specs.declared.tokens.TokenClass.{TokenClass}
 use Rattle.c_lexer.specs.Bytes.{is_space, place_after}
-use Rattle.c_lexer.specs.Classes.{IsTokenBefore, BeginsNoToken}
+use Rattle.c_lexer.specs.Classes.{token_class, IsTokenBefore, BeginsNoToken, StandsIn}
 use Rattle.c_lexer.specs.Fronts.{IsFront}
 use Rattle.c_lexer.specs.Reading.{after_space}
 use Rattle.c_lexer.specs.Spells.{SpellsTo, end, blank, token, Spells, cause_at, IsFaultOf}
@@ -201,3 +203,28 @@ stands_fault bytes at byte place tokens cause within is no_space none why stands
     let rest : drop at bytes ≡ byte ∷ drop (at + 1) bytes = drop_more bytes at 0 within ∙ ap (λ b. b ∷ drop (at + 1) bytes) (sym is) in
     reads_fault bytes (take at bytes) (drop (at + 1) bytes) byte tokens place cause (sym (take-append-drop at bytes) ∙ ap (λ r. take at bytes ++ r) rest) no_space
     (subst BeginsNoToken rest none) stands.placed why (subst (λ r. Reads bytes (take at bytes) r tokens) rest stands.reads)
+
+-- ---- where the tokens stand
+
+token_stands : (whole seen text rest : List ℕ) (c : TokenClass) → whole ≡ seen ++ text ++ rest → IsTokenBefore rest text c → StandsIn whole (token_at seen text c)
+token_stands whole seen [] rest c e is = absurd (not_none c (sym is.is_token ∙ empty_class))
+token_stands whole seen (byte ∷ bytes) rest c e is =
+    let text = byte ∷ bytes in
+    let joined = length-append seen text in
+    let after = length-append (seen ++ text) rest in
+    let cut : length (seen ++ text) - length seen ≡ length text = omega (arith, joined) in
+    let same : take (length (seen ++ text) - length seen) (drop (length seen) whole) ≡ text =
+        ap (λ n. take n (drop (length seen) whole)) cut ∙ ap (λ l. take (length text) l) (ap (drop (length seen)) (e ∙ append_assoc seen text rest) ∙ drop_at seen (text ++ rest) (length seen) refl)
+            ∙ take_at text rest (length text) refl in
+    record {
+      some = omega (arith, joined);
+      within = omega (arith, ap length e, after);
+      class = ap token_class same ∙ is.is_token;
+    }
+
+pub spelled_stand : {left seen bytes : List ℕ} {tokens : List Token} → SpellsTo left seen bytes tokens → (whole : List ℕ) → whole ≡ seen ++ bytes → All (StandsIn whole) tokens
+spelled_stand end whole e = All-nil (StandsIn whole)
+spelled_stand {seen = seen} (blank {rest = rest} {byte = byte} is more) whole e = spelled_stand more whole (e ∙ sym (append_assoc seen (byte ∷ []) rest))
+spelled_stand {seen = seen} (token {tokens = later} text rest c f is more) whole e =
+    let joined = e ∙ ap (λ b. seen ++ b) f ∙ sym (append_assoc seen text rest) in
+    All-cons (StandsIn whole) (token_at seen text c) later (token_stands whole seen text rest c joined is) (spelled_stand more whole joined)

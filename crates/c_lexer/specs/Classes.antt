@@ -1,8 +1,9 @@
 -- Which texts are tokens, and where a token ends.
-use Rattle.std.specs.Prelude.{◌≡◌, ℕ, ◌+◌, ◌-◌, ◌*◌, ◌<◌, Bool, true, false, not, ◌&&◌, ◌||◌, ◌==◌, nat_le, if◌then◌else◌, List, [], ◌∷◌, ◌++◌, length, fold, Option, Some, None}
+use Rattle.std.specs.Prelude.{◌≡◌, ℕ, ◌+◌, ◌-◌, ◌*◌, ◌<◌, ◌≤◌, Bool, true, false, not, ◌&&◌, ◌||◌, ◌==◌, nat_le, if◌then◌else◌, List, [], ◌∷◌, ◌++◌, length, take, drop, fold, Option, Some, None}
 use Rattle.std.specs.List.{list_all}
 use Rattle.std.specs.Option.{option_map}
 use Rattle.c_lexer.specs.declared.tokens.Keyword.{Keyword}
+use Rattle.c_lexer.specs.declared.tokens.Token.{Token}
 use Rattle.c_lexer.specs.declared.tokens.TokenClass.{TokenClass}
 use Rattle.c_lexer.specs.declared.tokens.TokenClass.TheVariants as class
 use Rattle.c_lexer.specs.Bytes.{is_letter, is_digit, is_name_byte}
@@ -57,3 +58,13 @@ pub record IsTokenBefore (following text : List ℕ) (class : TokenClass) : Type
 -- no front of the bytes is a token
 abbrev pub BeginsNoToken : List ℕ → Type 0
 BeginsNoToken bytes = (text following : List ℕ) (class : TokenClass) → bytes ≡ text ++ following → IsTokenBefore following text class → ⊥
+
+-- the text of a token
+abbrev pub text_of : List ℕ → Token → List ℕ
+text_of bytes token = take (token.end - token.start) (drop token.start bytes)
+
+-- the file has the token's text, which is of its class
+pub record StandsIn (bytes : List ℕ) (token : Token) : Type 0 where
+  pub some : token.start < token.end
+  pub within : token.end ≤ length bytes
+  pub class : token_class (text_of bytes token) ≡ Some token.class

@@ -1,7 +1,8 @@
 //! One pass over the bytes of a file.
 
-ghost use Rattle.std.specs.Prelude.{◌≡◌, List, IfOk, IfErr};
+ghost use Rattle.std.specs.Prelude.{◌≡◌, List, All, IfOk, IfErr};
 ghost use Rattle.c_lexer.specs.declared.tokens.Token.{Token};
+ghost use Rattle.c_lexer.specs.Classes.{StandsIn};
 ghost use Rattle.c_lexer.specs.Spells.{Spells, IsFaultOf};
 
 use crate::bytes::{after_space, is_space};
@@ -14,6 +15,7 @@ use std::alloc::Global;
 pub fn lex(alloc: Global, bytes: &[u8]) -> Result<Vec<Token>, Fault>
     ensures spelled { IfOk result (λ tokens. Spells bytes.now tokens.items) }
     ensures only { IfOk result (λ tokens. (others : List Token) → Spells bytes.now others → others ≡ tokens.items) }
+    ensures within { IfOk result (λ tokens. All (StandsIn bytes.now) tokens.items) }
     ensures refused { IfErr result (IsFaultOf bytes.now) }
 {
     let mut tokens = Vec::new(alloc);

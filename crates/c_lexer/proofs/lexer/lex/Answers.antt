@@ -3,7 +3,7 @@ use Rattle.std.proofs.lemmas.List.{length-drop, drop_more, take_rest}
 use Rattle.c_lexer.specs.Classes.{BeginsNoToken}
 use Rattle.c_lexer.specs.Fronts.{IsFront}
 use Rattle.c_lexer.specs.Spells.{cause_at}
-use Rattle.c_lexer.proofs.ReadingLemmas.{Stands, stands_bounds, stands_space, stands_token, stands_spelled, stands_only, stands_fault}
+use Rattle.c_lexer.proofs.ReadingLemmas.{Stands, stands_bounds, stands_space, stands_token, stands_spelled, stands_only, stands_fault, spelled_stand}
 use Rattle.c_lexer.proofs.lexer.lex.Goals as goal
 
 pub after_space-place-requires-clause-column : goal.after_space-place-requires-clause-column
@@ -48,3 +48,8 @@ returns-clause-spelled c = stands_spelled c.args.bytes.now c.tokens.start c.toke
 
 pub returns-clause-only : goal.returns-clause-only
 returns-clause-only c others h = stands_only c.args.bytes.now c.tokens.start c.tokens.place c.tokens.tokens.items others c.tokens-test.false c.tokens.invariant h
+
+pub returns-clause-within : goal.returns-clause-within
+returns-clause-within c =
+    let bytes = c.args.bytes.now in
+    spelled_stand (stands_spelled bytes c.tokens.start c.tokens.place c.tokens.tokens.items c.tokens-test.false c.tokens.invariant) bytes refl
