@@ -6,7 +6,6 @@ use Rattle.std.proofs.lemmas.List.{append-nil, append_cancel_left, length-append
 use Rattle.std.proofs.lemmas.List.Elements.{All-nil, All-cons}
 use Rattle.std.proofs.Math.Seq.{take-add}
 use Rattle.c_lexer.specs.declared.faults.Cause.{Cause}
-use Rattle.c_lexer.specs.declared.faults.Fault.TheVariants.{Refused}
 use Rattle.c_lexer.specs.declared.front.Front.{Front}
 use Rattle.c_lexer.specs.declared.tokens.Place.{Place}
 use Rattle.c_lexer.specs.declared.tokens.Token.{Token}
@@ -15,7 +14,7 @@ use Rattle.c_lexer.specs.Bytes.{is_space, place_after}
 use Rattle.c_lexer.specs.Classes.{token_class, IsTokenBefore, BeginsNoToken, StandsIn}
 use Rattle.c_lexer.specs.Fronts.{IsFront}
 use Rattle.c_lexer.specs.Reading.{after_space}
-use Rattle.c_lexer.specs.Spells.{SpellsTo, end, blank, token, Spells, cause_at, IsFaultOf}
+use Rattle.c_lexer.specs.Spells.{SpellsTo, end, blank, token, Spells, cause_at, IsRefused}
 use Rattle.c_lexer.proofs.ClassLemmas.{empty_class, space_class, token_in_line}
 use Rattle.c_lexer.proofs.FrontLemmas.{not_none, same_first, only_token}
 use Rattle.c_lexer.proofs.PlaceLemmas.{same_place, place_more, place_along, place_bounds}
@@ -113,22 +112,23 @@ reads_only bytes seen tokens others reads h =
     r.joined ∙ ap (λ ts. tokens ++ ts) (no_more r.spelled) ∙ append-nil tokens
 
 reads_fault : (bytes seen after : List ℕ) (byte : ℕ) (tokens : List Token) (place : Place) (cause : Cause) → bytes ≡ seen ++ byte ∷ after → is_space byte ≡ false → BeginsNoToken (byte ∷ after)
-    → place ≡ place_after seen → cause ≡ cause_at byte → Reads bytes seen (byte ∷ after) tokens → IsFaultOf bytes (Refused place cause)
-reads_fault bytes seen after byte tokens place cause whole no_space none at why reads = (
-  record {
-    before = seen;
-    first = byte;
-    after = after;
-    tokens = tokens ++ [];
-    whole = whole;
-    spelled = reads.onward (byte ∷ after) [] end;
-    no_space = no_space;
-    no_token = none;
-    at = at;
-    why = why;
-  },
-  λ ts h. nothing_next no_space none (reads.only ts h).spelled,
-)
+    → place ≡ place_after seen → cause ≡ cause_at byte → Reads bytes seen (byte ∷ after) tokens → IsRefused bytes place cause
+reads_fault bytes seen after byte tokens place cause whole no_space none at why reads = record {
+  before = seen;
+  first = byte;
+  after = after;
+  tokens = tokens ++ [];
+  whole = whole;
+  spelled = reads.onward (byte ∷ after) [] end;
+  no_space = no_space;
+  no_token = none;
+  at = at;
+  why = why;
+}
+
+reads_nothing : (bytes seen after : List ℕ) (byte : ℕ) (tokens : List Token) → is_space byte ≡ false → BeginsNoToken (byte ∷ after) → Reads bytes seen (byte ∷ after) tokens
+    → (whole : List Token) → Spells bytes whole → ⊥
+reads_nothing bytes seen after byte tokens no_space none reads whole h = nothing_next no_space none (reads.only whole h).spelled
 
 -- ---- the same, by the number of bytes read
 
@@ -197,12 +197,21 @@ pub stands_only : (bytes : List ℕ) (at : ℕ) (place : Place) (tokens others :
 stands_only bytes at place tokens others over stands h =
     reads_only bytes (take at bytes) tokens others (subst (λ r. Reads bytes (take at bytes) r tokens) (drop_all at bytes over) stands.reads) h
 
+rest_at : (bytes : List ℕ) (at byte : ℕ) → at < length bytes → byte ≡ get_or bytes at 0 → drop at bytes ≡ byte ∷ drop (at + 1) bytes
+rest_at bytes at byte within is = drop_more bytes at 0 within ∙ ap (λ b. b ∷ drop (at + 1) bytes) (sym is)
+
 pub stands_fault : (bytes : List ℕ) (at byte : ℕ) (place : Place) (tokens : List Token) (cause : Cause) → at < length bytes → byte ≡ get_or bytes at 0 → is_space byte ≡ false
-    → BeginsNoToken (drop at bytes) → cause ≡ cause_at byte → Stands bytes at place tokens → IsFaultOf bytes (Refused place cause)
+    → BeginsNoToken (drop at bytes) → cause ≡ cause_at byte → Stands bytes at place tokens → IsRefused bytes place cause
 stands_fault bytes at byte place tokens cause within is no_space none why stands =
-    let rest : drop at bytes ≡ byte ∷ drop (at + 1) bytes = drop_more bytes at 0 within ∙ ap (λ b. b ∷ drop (at + 1) bytes) (sym is) in
+    let rest = rest_at bytes at byte within is in
     reads_fault bytes (take at bytes) (drop (at + 1) bytes) byte tokens place cause (sym (take-append-drop at bytes) ∙ ap (λ r. take at bytes ++ r) rest) no_space
     (subst BeginsNoToken rest none) stands.placed why (subst (λ r. Reads bytes (take at bytes) r tokens) rest stands.reads)
+
+pub stands_nothing : (bytes : List ℕ) (at byte : ℕ) (place : Place) (tokens : List Token) → at < length bytes → byte ≡ get_or bytes at 0 → is_space byte ≡ false
+    → BeginsNoToken (drop at bytes) → Stands bytes at place tokens → (whole : List Token) → Spells bytes whole → ⊥
+stands_nothing bytes at byte place tokens within is no_space none stands =
+    let rest = rest_at bytes at byte within is in
+    reads_nothing bytes (take at bytes) (drop (at + 1) bytes) byte tokens no_space (subst BeginsNoToken rest none) (subst (λ r. Reads bytes (take at bytes) r tokens) rest stands.reads)
 
 -- ---- where the tokens stand
 
@@ -214,8 +223,8 @@ token_stands whole seen (byte ∷ bytes) rest c e is =
     let after = length-append (seen ++ text) rest in
     let cut : length (seen ++ text) - length seen ≡ length text = omega (arith, joined) in
     let same : take (length (seen ++ text) - length seen) (drop (length seen) whole) ≡ text =
-        ap (λ n. take n (drop (length seen) whole)) cut ∙ ap (λ l. take (length text) l) (ap (drop (length seen)) (e ∙ append_assoc seen text rest) ∙ drop_at seen (text ++ rest) (length seen) refl)
-            ∙ take_at text rest (length text) refl in
+    ap (λ n. take n (drop (length seen) whole)) cut ∙ ap (λ l. take (length text) l) (ap (drop (length seen)) (e ∙ append_assoc seen text rest) ∙ drop_at seen (text ++ rest) (length seen) refl)
+    ∙ take_at text rest (length text) refl in
     record {
       some = omega (arith, joined);
       within = omega (arith, ap length e, after);

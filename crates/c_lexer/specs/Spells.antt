@@ -38,7 +38,12 @@ pub record IsRefused (bytes : List ℕ) (place : Place) (cause : Cause) : Type 0
   pub at : place ≡ place_after before
   pub why : cause ≡ cause_at first
 
--- the fault is want of memory, or what is wrong with the bytes
+-- the fault is want of memory, or tells the first byte that is wrong
 abbrev pub IsFaultOf : List ℕ → Fault → Type 0
-IsFaultOf bytes (Refused place cause) = IsRefused bytes place cause × ((tokens : List Token) → Spells bytes tokens → ⊥)
+IsFaultOf bytes (Refused place cause) = IsRefused bytes place cause
 IsFaultOf bytes Memory = Unit {0}
+
+-- the fault is want of memory, or nothing is spelled
+abbrev pub HasNoTokens : List ℕ → Fault → Type 0
+HasNoTokens bytes (Refused place cause) = (tokens : List Token) → Spells bytes tokens → ⊥
+HasNoTokens bytes Memory = Unit {0}

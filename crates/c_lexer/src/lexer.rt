@@ -3,7 +3,7 @@
 ghost use Rattle.std.specs.Prelude.{◌≡◌, List, All, IfOk, IfErr};
 ghost use Rattle.c_lexer.specs.declared.tokens.Token.{Token};
 ghost use Rattle.c_lexer.specs.Classes.{StandsIn};
-ghost use Rattle.c_lexer.specs.Spells.{Spells, IsFaultOf};
+ghost use Rattle.c_lexer.specs.Spells.{Spells, IsFaultOf, HasNoTokens};
 
 use crate::bytes::{after_space, is_space};
 use crate::faults::Fault;
@@ -16,6 +16,9 @@ pub fn lex(alloc: Global, bytes: &[u8]) -> Result<Vec<Token>, Fault>
     ensures spelled { IfOk result (λ tokens. Spells bytes.now tokens.items) }
     ensures only { IfOk result (λ tokens. (others : List Token) → Spells bytes.now others → others ≡ tokens.items) }
     ensures within { IfOk result (λ tokens. All (StandsIn bytes.now) tokens.items) }
+
+    // Where the bytes are refused, nothing is spelled, and the place is that of the first byte at which no token begins.
+    ensures none { IfErr result (HasNoTokens bytes.now) }
     ensures refused { IfErr result (IsFaultOf bytes.now) }
 {
     let mut tokens = Vec::new(alloc);

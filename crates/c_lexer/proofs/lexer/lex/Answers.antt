@@ -3,7 +3,7 @@ use Rattle.std.proofs.lemmas.List.{length-drop, drop_more, take_rest}
 use Rattle.c_lexer.specs.Classes.{BeginsNoToken}
 use Rattle.c_lexer.specs.Fronts.{IsFront}
 use Rattle.c_lexer.specs.Spells.{cause_at}
-use Rattle.c_lexer.proofs.ReadingLemmas.{Stands, stands_bounds, stands_space, stands_token, stands_spelled, stands_only, stands_fault, spelled_stand}
+use Rattle.c_lexer.proofs.ReadingLemmas.{Stands, stands_bounds, stands_space, stands_token, stands_spelled, stands_only, stands_fault, stands_nothing, spelled_stand}
 use Rattle.c_lexer.proofs.lexer.lex.Goals as goal
 
 pub after_space-place-requires-clause-column : goal.after_space-place-requires-clause-column
@@ -42,6 +42,13 @@ returns-in-Err-clause-refused c =
     let first = ap (λ text. get_or text 0 0) (take_rest bytes start ∙ drop_more bytes start 0 c.tokens-test.true) in
     stands_fault bytes start (get_or bytes start 0) c.tokens.place c.tokens.tokens.items c.in-Err.cause c.tokens-test.true refl (sym c.is_space.ensures ∙ c.if-is_space.false)
     (subst BeginsNoToken (take_rest bytes start) c.in-Err.ensures.none) (c.in-Err.ensures.cause ∙ ap cause_at first) c.tokens.invariant
+
+pub returns-in-Err-clause-none : goal.returns-in-Err-clause-none
+returns-in-Err-clause-none c =
+    let bytes = c.args.bytes.now in
+    let start = c.tokens.start in
+    stands_nothing bytes start (get_or bytes start 0) c.tokens.place c.tokens.tokens.items c.tokens-test.true refl (sym c.is_space.ensures ∙ c.if-is_space.false)
+    (subst BeginsNoToken (take_rest bytes start) c.in-Err.ensures.none) c.tokens.invariant
 
 pub returns-clause-spelled : goal.returns-clause-spelled
 returns-clause-spelled c = stands_spelled c.args.bytes.now c.tokens.start c.tokens.place c.tokens.tokens.items c.tokens-test.false c.tokens.invariant
