@@ -1,0 +1,7 @@
+pub mod Runs
+pub mod PlaceLemmas
+pub mod TableLemmas
+pub mod ClassLemmas
+pub mod FrontLemmas
+pub mod DigitLemmas
+pub mod ReadingLemmas

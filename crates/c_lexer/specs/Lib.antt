@@ -1,0 +1,6 @@
+pub mod Bytes
+pub mod Tables
+pub mod Classes
+pub mod Spells
+pub mod Fronts
+pub mod Reading
