@@ -1,0 +1,6 @@
+pub mod Rules
+pub mod LookAhead
+pub mod Names
+pub mod State
+pub mod Rows
+pub mod File
