@@ -4,3 +4,4 @@ pub mod Names
 pub mod State
 pub mod Rows
 pub mod File
+pub mod Stands

@@ -4,7 +4,7 @@ use Rattle.c_parser.specs.declared.symbol.Turn.{Turn}
 use Rattle.c_parser.specs.declared.symbol.Turn.TheVariants as turn
 use Rattle.c_parser.specs.declared.symbol.Symbol.{Symbol}
 use Rattle.c_parser.specs.declared.symbol.Symbol.TheVariants as symbol
-use Rattle.c_parser.specs.Rules.{Row, Rules, OneOf, same}
+use Rattle.c_parser.specs.Rules.{Row, Rules, same, is_of}
 
 -- For each line: the classes of tokens that may come first in it, whether it may read nothing, and the
 -- classes that may come after it. With it a list of all classes, in the order of their numbers, and one of all lines.
@@ -41,15 +41,11 @@ first_row p [] = None
 first_row p (row ∷ rows) = if p row then Some row else first_row p rows
 
 module _ {C L A : Type 0} (rules : Rules C L A) (table : Table C L) where
-  abbrev pub is_of : C → List C → Bool
-  is_of c [] = false
-  is_of c (d ∷ ds) = same rules d c || is_of c ds
-
   -- whether a token of the class may come first in the row
   abbrev pub may_begin : Row C L A → C → Bool
   may_begin [] c = false
   may_begin (symbol.Token d e ∷ row) c = same rules d c
-  may_begin (symbol.Line l ∷ row) c = is_of c (table.first l) || (table.empty l && may_begin row c)
+  may_begin (symbol.Line l ∷ row) c = is_of rules c (table.first l) || (table.empty l && may_begin row c)
   may_begin (symbol.Make a ∷ row) c = may_begin row c
   may_begin (symbol.Turn x ∷ row) c = not (keeps x) || may_begin row c
   may_begin (symbol.NotNext d ∷ row) c = not (same rules d c) && may_begin row c
@@ -74,14 +70,14 @@ module _ {C L A : Type 0} (rules : Rules C L A) (table : Table C L) where
 
   -- whether a token of the class may be the next one where the line reads this row
   abbrev pub may_go_on : L → Row C L A → C → Bool
-  may_go_on l body c = may_begin body c || (may_pass body c && is_of c (table.follow l))
+  may_go_on l body c = may_begin body c || (may_pass body c && is_of rules c (table.follow l))
 
   -- at one class: what may come after the lines of a row of `l` may come after them by the table
   abbrev pub follows_at : L → C → Row C L A → Bool
   follows_at l c [] = true
   follows_at l c (symbol.Line m ∷ row) =
-      implies (may_begin row c) (is_of c (table.follow m))
-      && (implies (may_be_empty row) (implies (is_of c (table.follow l)) (is_of c (table.follow m))) && follows_at l c row)
+      implies (may_begin row c) (is_of rules c (table.follow m))
+      && (implies (may_be_empty row) (implies (is_of rules c (table.follow l)) (is_of rules c (table.follow m))) && follows_at l c row)
   follows_at l c (symbol.Token d e ∷ row) = follows_at l c row
   follows_at l c (symbol.Make a ∷ row) = follows_at l c row
   follows_at l c (symbol.Turn x ∷ row) = follows_at l c row
@@ -89,7 +85,7 @@ module _ {C L A : Type 0} (rules : Rules C L A) (table : Table C L) where
 
   -- at one class: the table says enough of a row of `l`
   abbrev pub row_holds : L → C → Row C L A → Bool
-  row_holds l c body = implies (may_begin body c) (is_of c (table.first l)) && (implies (may_be_empty body) (table.empty l) && follows_at l c body)
+  row_holds l c body = implies (may_begin body c) (is_of rules c (table.first l)) && (implies (may_be_empty body) (table.empty l) && follows_at l c body)
 
   abbrev pub one_at_most : (Row C L A → Bool) → List (Row C L A) → Bool
   one_at_most p [] = true

@@ -1,5 +1,5 @@
 -- A grammar: its lines, each with its alternatives, and the classes of names.
-use Rattle.std.specs.Prelude.{ℕ, Bool, ◌==◌, List, ◌∷◌}
+use Rattle.std.specs.Prelude.{ℕ, Bool, false, ◌||◌, ◌==◌, List, [], ◌∷◌}
 use Rattle.c_parser.specs.declared.symbol.Symbol.{Symbol}
 
 abbrev pub Row : Type 0 → Type 0 → Type 0 → Type 0
@@ -24,3 +24,8 @@ pub data OneOf {C L A : Type 0} (row : Row C L A) : List (Row C L A) → Type 0 
 -- the same class
 abbrev pub same : {C L A : Type 0} → Rules C L A → C → C → Bool
 same rules c d = rules.number c == rules.number d
+
+-- whether a class is one of these
+abbrev pub is_of : {C L A : Type 0} → Rules C L A → C → List C → Bool
+is_of rules c [] = false
+is_of rules c (d ∷ ds) = same rules d c || is_of rules c ds

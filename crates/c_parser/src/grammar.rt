@@ -9,11 +9,11 @@ pub trait Grammar {
     ghost use Rattle.c_parser.specs.LookAhead.{Table, IsRight};
 
     /// What a token is to the grammar.
-    type Class: Copy;
+    type Class: Copy + 'static;
     /// A line of the grammar.
-    type Line: Copy;
+    type Line: Copy + 'static;
     /// What a caller does where a part has been read.
-    type Action: Copy;
+    type Action: Copy + 'static;
 
     ghost rules: { Rules Self.Class Self.Line Self.Action };
 

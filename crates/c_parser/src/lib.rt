@@ -1,6 +1,7 @@
 // A parsing machine: it reads tokens by a grammar that is data, one token of look-ahead at a time.
 #![tactic(auto)]
 
+mod choose;
 mod fault;
 mod grammar;
 mod machine;

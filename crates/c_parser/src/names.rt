@@ -1,6 +1,7 @@
 ghost use Rattle.std.specs.Prelude.{◌≡◌, [], OnOk};
-ghost use Rattle.c_parser.specs.Names.{is_among, with_name};
+ghost use Rattle.c_parser.specs.Names.{is_among, with_name, with_names};
 
+use crate::stack::Stack;
 use std::alloc::{AllocError, Global};
 use std::collections::BTreeSet;
 use std::marker::Model;
@@ -38,6 +39,17 @@ impl Names {
         ensures { OnOk result (self.new ≡ with_name name self.old) }
     {
         self.set.insert(name)?;
+        Ok(())
+    }
+
+    /// Empties the stack.
+    pub fn add_all(&mut self, names: &mut Stack<u32>) -> Result<(), AllocError>
+        ensures added { OnOk result (self.new ≡ with_names names.old self.old) }
+        ensures emptied { OnOk result (names.new ≡ []) }
+    {
+        while let Some(name) = names.pop() {
+            self.add(name)?;
+        }
         Ok(())
     }
 }
