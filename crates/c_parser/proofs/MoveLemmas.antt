@@ -1,0 +1,159 @@
+-- The steps of the machine, at its fields.
+use Rattle.std.proofs.Common.{◌≡◌, ◌≢◌, ℕ, zero, suc, ◌+◌, ◌<◌, ◌≤◌, Bool, true, false, List, [], ◌∷◌, ◌++◌, length, take, drop, get_or, Option, Some, None, refl, sym, ◌∙◌, ap, subst, drop-cons, add-one, length-append, length-drop, arith}
+use Rattle.std.proofs.Math.ListN.{drop_of_length-le}
+use Rattle.c_parser.specs.declared.symbol.Effect.{Effect}
+use Rattle.c_parser.specs.declared.symbol.Turn.{Turn}
+use Rattle.c_parser.specs.declared.symbol.Symbol.{Symbol}
+use Rattle.c_parser.specs.declared.symbol.Symbol.TheVariants as symbol
+use Rattle.c_parser.specs.declared.symbol.Token.{Token}
+use Rattle.c_parser.specs.declared.symbol.Step.{Step}
+use Rattle.c_parser.specs.declared.symbol.Step.TheVariants as step
+use Rattle.c_parser.specs.declared.fault.Cause.{Cause}
+use Rattle.c_parser.specs.declared.fault.Cause.TheVariants as cause
+use Rattle.c_parser.specs.declared.fault.Fault.{Fault}
+use Rattle.c_parser.specs.declared.fault.Fault.TheVariants as fault
+use Rattle.c_parser.specs.declared.state.State.{State}
+use Rattle.c_parser.specs.declared.machine.Machine.{Machine}
+use Rattle.c_parser.specs.Rules.{Row, Rules, OneOf, same}
+use Rattle.c_parser.specs.LookAhead.{Table, IsRight, first_row, may_go_on, may_be_empty}
+use Rattle.c_parser.specs.State.{class_at, after, turned, max_levels}
+use Rattle.c_parser.specs.Rows.{Begins, Reads, IsNot}
+use Rattle.c_parser.specs.File.{IsFile, BeginsFile, IsUnexpected, IsTooDeep, IsUnexpectedEnd, IsOnly, IsRefusal, IsAnswered, IsNoFile, IsRefused}
+use Rattle.c_parser.specs.Stands.{Stands, StandsBy}
+use Rattle.c_parser.proofs.SameLemmas.{same_class}
+use Rattle.c_parser.proofs.TableCheck.{chosen, chosen_at_end}
+use Rattle.c_parser.proofs.ChooseLemmas.{first_found, none_found}
+use Rattle.c_parser.proofs.RowLemmas.{Begins-take, Reads-begins}
+use Rattle.c_parser.proofs.Steps.{after_more, stands_token, stands_line, stands_line_at_end, stands_make, stands_turn, stands_not_next, unexpected_token, unexpected_line, unexpected_next, unexpected_rest, end_token, end_line, too_deep, finished}
+
+any_default : {X : Type 0} (xs : List X) (i : ℕ) (d e : X) → i < length xs → get_or xs i d ≡ get_or xs i e
+any_default [] i d e h = absurd (omega arith)
+any_default (x ∷ xs) zero d e h = refl
+any_default (x ∷ xs) (suc n) d e h = any_default xs n d e (omega arith)
+
+-- the element at a place, whatever the default
+pub element_at : {X : Type 0} (xs : List X) (at : ℕ) (d : X) → at < length xs → get_or xs at (get_or xs at d) ≡ get_or xs at d
+element_at xs at d h = any_default xs at (get_or xs at d) d h
+
+next_is : {X : Type 0} (T : List X) (at : ℕ) (t : X) → at < length T → get_or T at t ≡ t → drop at T ≡ t ∷ drop (at + 1) T
+next_is T at t h is = rw add-one (drop-cons T at t h ∙ ap (λ x. x ∷ drop (suc at) T) is)
+
+-- ---- a refused file is none
+
+front_taken : {X : Type 0} (front : List X) (x : X) (back : List X) → take (suc (length front)) (front ++ x ∷ back) ≡ front ++ x ∷ []
+front_taken [] x back = refl
+front_taken (y ∷ ys) x back = ap (λ zs. y ∷ zs) (front_taken ys x back)
+
+module _ {C L A : Type 0} (rules : Rules C L A) (T : List (Token C)) where
+  begins_front : (seen rest : List (Token C)) (next : Token C) → seen ++ next ∷ rest ≡ T → (steps : List (Step A)) → IsFile rules max_levels T steps
+      → BeginsFile rules max_levels (seen ++ next ∷ [])
+  begins_front seen rest next whole steps f =
+      subst (λ (ts : List (Token C)). BeginsFile rules max_levels ts) (ap (λ (ts : List (Token C)). take (suc (length seen)) ts) (sym whole) ∙ front_taken seen next rest)
+      (Begins-take rules (Reads-begins rules f) (suc (length seen)))
+
+  pub refused_is_none : (at : ℕ) (why : Cause) → IsRefusal rules T at why → IsNoFile rules T
+  refused_is_none at cause.Unexpected u steps f = u.never max_levels (begins_front u.seen u.rest u.next u.whole steps f)
+  refused_is_none at cause.TooDeep u steps f = u.never (begins_front u.seen u.rest u.next u.whole steps f)
+  refused_is_none at cause.UnexpectedEnd u steps f = u.never max_levels steps f
+
+  pub answered_is_none : (e : Fault) → IsAnswered rules T e → IsRefused rules T e
+  answered_is_none fault.Memory h = tt
+  answered_is_none (fault.Refused at why) h = refused_is_none at why h
+
+-- ---- the steps
+
+module _ {C L A : Type 0} (rules : Rules C L A) (table : Table C L) (T : List (Token C)) (m : Machine C L A) (row : Row C L A) where
+  -- the same place, with what comes next in view
+  before_token : (t : Token C) → m.at < length T → get_or T m.at t ≡ t → (st : StandsBy rules table T row m) → Stands rules table T m.state row (t ∷ drop (m.at + 1) T) m.steps.items
+  before_token t h is st = subst (λ (rest : List (Token C)). Stands rules table T m.state row rest m.steps.items) (next_is T m.at t h is) st.stands
+
+  at_end : length T ≤ m.at → (st : StandsBy rules table T row m) → Stands rules table T m.state row [] m.steps.items
+  at_end h st = subst (λ (rest : List (Token C)). Stands rules table T m.state row rest m.steps.items) (drop_of_length-le T h) st.stands
+
+  seen_before : (t : Token C) (st : Stands rules table T m.state row (t ∷ drop (m.at + 1) T) m.steps.items) → m.at < length T → length st.seen ≡ m.at
+  seen_before t st h = omega (arith, ap length st.whole, length-append st.seen (t ∷ drop (m.at + 1) T), length-drop (m.at + 1) T)
+
+module _ {C L A : Type 0} (rules : Rules C L A) (table : Table C L) (right : IsRight rules table) (T : List (Token C)) (m : Machine C L A) where
+  module _ (t : Token C) (h : m.at < length T) (is : get_or T m.at t ≡ t) where
+    pub token_moves : (c : C) (e : Effect) (next : State) → StandsBy rules table T (symbol.Token c e ∷ m.row) m → class_at rules m.state t ≡ c → after max_levels e m.state t ≡ Some next
+        → Stands rules table T next m.row (drop (m.at + 1) T) (m.steps.items ++ step.Token ∷ [])
+    token_moves c e next st same moves =
+        stands_token rules table right T m.state m.steps.items m.row c e t (drop (m.at + 1) T) next
+        (before_token rules table T m (symbol.Token c e ∷ m.row) t h is st) same (λ limit l. after_more max_levels limit e m.state t next l moves)
+
+    pub token_unexpected : (c : C) (e : Effect) → StandsBy rules table T (symbol.Token c e ∷ m.row) m → class_at rules m.state t ≢ c → IsUnexpected rules T m.at
+    token_unexpected c e st other =
+        let here = before_token rules table T m (symbol.Token c e ∷ m.row) t h is st in
+        subst (λ (at : ℕ). IsUnexpected rules T at) (seen_before rules table T m (symbol.Token c e ∷ m.row) t here h)
+        (unexpected_token rules table right T m.state m.steps.items m.row c e t (drop (m.at + 1) T) here other)
+
+    pub token_too_deep : (c : C) (e : Effect) → StandsBy rules table T (symbol.Token c e ∷ m.row) m → class_at rules m.state t ≡ c → after max_levels e m.state t ≡ None
+        → IsTooDeep rules T m.at
+    token_too_deep c e st same none =
+        let here = before_token rules table T m (symbol.Token c e ∷ m.row) t h is st in
+        subst (λ (at : ℕ). IsTooDeep rules T at) (seen_before rules table T m (symbol.Token c e ∷ m.row) t here h)
+        (too_deep rules table right T m.state m.steps.items m.row c e t (drop (m.at + 1) T) here same none)
+
+    pub line_moves : (l : L) (body : Row C L A) → StandsBy rules table T (symbol.Line l ∷ m.row) m
+        → first_row (λ row. may_go_on rules table l row (class_at rules m.state t)) (rules.lines l) ≡ Some body
+        → Stands rules table T m.state (body ++ m.row) (drop m.at T) m.steps.items
+    line_moves l body st first =
+        let found = first_found (λ row. may_go_on rules table l row (class_at rules m.state t)) (rules.lines l) body first in
+        let moved = stands_line rules table right T m.state m.steps.items m.row l body t (drop (m.at + 1) T)
+            (before_token rules table T m (symbol.Line l ∷ m.row) t h is st)
+            (chosen rules table right l (class_at rules m.state t) body found.0 found.1) in
+        subst (λ (rest : List (Token C)). Stands rules table T m.state (body ++ m.row) rest m.steps.items) (sym (next_is T m.at t h is)) moved
+
+    pub line_unexpected : (l : L) → StandsBy rules table T (symbol.Line l ∷ m.row) m
+        → first_row (λ row. may_go_on rules table l row (class_at rules m.state t)) (rules.lines l) ≡ None → IsUnexpected rules T m.at
+    line_unexpected l st none =
+        let here = before_token rules table T m (symbol.Line l ∷ m.row) t h is st in
+        subst (λ (at : ℕ). IsUnexpected rules T at) (seen_before rules table T m (symbol.Line l ∷ m.row) t here h)
+        (unexpected_line rules table right T m.state m.steps.items m.row l t (drop (m.at + 1) T) here
+          (none_found (λ row. may_go_on rules table l row (class_at rules m.state t)) (rules.lines l) none))
+
+    pub next_unexpected : (c : C) → StandsBy rules table T (symbol.NotNext c ∷ m.row) m → class_at rules m.state t ≡ c → IsUnexpected rules T m.at
+    next_unexpected c st same =
+        let here = before_token rules table T m (symbol.NotNext c ∷ m.row) t h is st in
+        subst (λ (at : ℕ). IsUnexpected rules T at) (seen_before rules table T m (symbol.NotNext c ∷ m.row) t here h)
+        (unexpected_next rules table right T m.state m.steps.items m.row c t (drop (m.at + 1) T) here same)
+
+    pub next_passes : (c : C) → StandsBy rules table T (symbol.NotNext c ∷ m.row) m → class_at rules m.state t ≢ c → Stands rules table T m.state m.row (drop m.at T) m.steps.items
+    next_passes c st other =
+        stands_not_next rules table right T m.state m.steps.items m.row c (drop m.at T) st.stands
+        (subst (λ (rest : List (Token C)). IsNot rules m.state c rest) (sym (next_is T m.at t h is)) other)
+
+    pub rest_unexpected : StandsBy rules table T [] m → IsUnexpected rules T m.at
+    rest_unexpected st =
+        let here = before_token rules table T m [] t h is st in
+        subst (λ (at : ℕ). IsUnexpected rules T at) (seen_before rules table T m [] t here h)
+        (unexpected_rest rules table right T m.state m.steps.items t (drop (m.at + 1) T) here)
+
+  module _ (h : length T ≤ m.at) where
+    pub token_end : (c : C) (e : Effect) → StandsBy rules table T (symbol.Token c e ∷ m.row) m → IsUnexpectedEnd rules T (length T)
+    token_end c e st = end_token rules table right T m.state m.steps.items m.row c e (at_end rules table T m (symbol.Token c e ∷ m.row) h st)
+
+    pub line_end : (l : L) → StandsBy rules table T (symbol.Line l ∷ m.row) m → first_row (λ row. may_be_empty rules table row) (rules.lines l) ≡ None
+        → IsUnexpectedEnd rules T (length T)
+    line_end l st none =
+        end_line rules table right T m.state m.steps.items m.row l (at_end rules table T m (symbol.Line l ∷ m.row) h st)
+        (none_found (λ row. may_be_empty rules table row) (rules.lines l) none)
+
+    pub line_end_moves : (l : L) (body : Row C L A) → StandsBy rules table T (symbol.Line l ∷ m.row) m
+        → first_row (λ row. may_be_empty rules table row) (rules.lines l) ≡ Some body → Stands rules table T m.state (body ++ m.row) (drop m.at T) m.steps.items
+    line_end_moves l body st first =
+        let found = first_found (λ row. may_be_empty rules table row) (rules.lines l) body first in
+        subst (λ (rest : List (Token C)). Stands rules table T m.state (body ++ m.row) rest m.steps.items) (sym (drop_of_length-le T h))
+        (stands_line_at_end rules table right T m.state m.steps.items m.row l body (at_end rules table T m (symbol.Line l ∷ m.row) h st)
+          (chosen_at_end rules table right l body found.0 found.1))
+
+    pub next_passes_end : (c : C) → StandsBy rules table T (symbol.NotNext c ∷ m.row) m → Stands rules table T m.state m.row (drop m.at T) m.steps.items
+    next_passes_end c st =
+        stands_not_next rules table right T m.state m.steps.items m.row c (drop m.at T) st.stands
+        (subst (λ (rest : List (Token C)). IsNot rules m.state c rest) (sym (drop_of_length-le T h)) tt)
+
+    pub all_read : StandsBy rules table T [] m → IsOnly rules T m.steps.items
+    all_read st = finished rules table right T m.state m.steps.items (at_end rules table T m [] h st)
+
+pub other_class : {C L A : Type 0} (rules : Rules C L A) (a b : C) → same rules a b ≡ false → a ≢ b
+other_class rules a b h e = let wrong = same_class rules a b e in cc
