@@ -1,5 +1,5 @@
 -- The steps of the machine, at its fields.
-use Rattle.std.proofs.Common.{◌≡◌, ◌≢◌, ℕ, zero, suc, ◌+◌, ◌<◌, ◌≤◌, Bool, true, false, List, [], ◌∷◌, ◌++◌, length, take, drop, get_or, Option, Some, None, refl, sym, ◌∙◌, ap, subst, drop-cons, add-one, length-append, length-drop, arith}
+use Rattle.std.proofs.Common.{◌≡◌, ◌≢◌, ℕ, zero, suc, ◌+◌, ◌<◌, ◌≤◌, Bool, true, false, List, [], ◌∷◌, ◌++◌, length, take, drop, get_or, Option, Some, None, Result, Ok, Err, IfErr, refl, sym, ◌∙◌, ap, subst, drop-cons, add-one, length-append, length-drop, arith}
 use Rattle.std.proofs.Math.ListN.{drop_of_length-le}
 use Rattle.c_parser.specs.declared.symbol.Effect.{Effect}
 use Rattle.c_parser.specs.declared.symbol.Turn.{Turn}
@@ -26,14 +26,11 @@ use Rattle.c_parser.proofs.ChooseLemmas.{first_found, none_found}
 use Rattle.c_parser.proofs.RowLemmas.{Begins-take, Reads-begins}
 use Rattle.c_parser.proofs.Steps.{after_more, stands_token, stands_line, stands_line_at_end, stands_make, stands_turn, stands_not_next, unexpected_token, unexpected_line, unexpected_next, unexpected_rest, end_token, end_line, too_deep, finished}
 
-any_default : {X : Type 0} (xs : List X) (i : ℕ) (d e : X) → i < length xs → get_or xs i d ≡ get_or xs i e
-any_default [] i d e h = absurd (omega arith)
-any_default (x ∷ xs) zero d e h = refl
-any_default (x ∷ xs) (suc n) d e h = any_default xs n d e (omega arith)
-
--- the element at a place, whatever the default
-pub element_at : {X : Type 0} (xs : List X) (at : ℕ) (d : X) → at < length xs → get_or xs at (get_or xs at d) ≡ get_or xs at d
-element_at xs at d h = any_default xs at (get_or xs at d) d h
+-- there is an element at each place
+element_at : {X : Type 0} (xs : List X) (at : ℕ) → at < length xs → (x : X) × (get_or xs at x ≡ x)
+element_at [] at h = absurd (omega arith)
+element_at (x ∷ xs) zero h = (x, refl)
+element_at (x ∷ xs) (suc n) h = element_at xs n (omega arith)
 
 next_is : {X : Type 0} (T : List X) (at : ℕ) (t : X) → at < length T → get_or T at t ≡ t → drop at T ≡ t ∷ drop (at + 1) T
 next_is T at t h is = rw add-one (drop-cons T at t h ∙ ap (λ x. x ∷ drop (suc at) T) is)
@@ -59,6 +56,10 @@ module _ {C L A : Type 0} (rules : Rules C L A) (T : List (Token C)) where
   pub answered_is_none : (e : Fault) → IsAnswered rules T e → IsRefused rules T e
   answered_is_none fault.Memory h = tt
   answered_is_none (fault.Refused at why) h = refused_is_none at why h
+
+  pub error_is_none : {X : Type 0} (r : Result X Fault) → IfErr r (λ e. IsAnswered rules T e) → IfErr r (λ e. IsRefused rules T e)
+  error_is_none (Ok x) h = tt
+  error_is_none (Err e) h = answered_is_none e h
 
 -- ---- the steps
 
@@ -123,11 +124,13 @@ module _ {C L A : Type 0} (rules : Rules C L A) (table : Table C L) (right : IsR
         stands_not_next rules table right T m.state m.steps.items m.row c (drop m.at T) st.stands
         (subst (λ (rest : List (Token C)). IsNot rules m.state c rest) (sym (next_is T m.at t h is)) other)
 
-    pub rest_unexpected : StandsBy rules table T [] m → IsUnexpected rules T m.at
-    rest_unexpected st =
-        let here = before_token rules table T m [] t h is st in
-        subst (λ (at : ℕ). IsUnexpected rules T at) (seen_before rules table T m [] t here h)
-        (unexpected_rest rules table right T m.state m.steps.items t (drop (m.at + 1) T) here)
+  -- a token after the end
+  pub rest_unexpected : m.at < length T → StandsBy rules table T [] m → IsUnexpected rules T m.at
+  rest_unexpected h st =
+      let next = element_at T m.at h in
+      let here = before_token rules table T m [] next.0 h next.1 st in
+      subst (λ (at : ℕ). IsUnexpected rules T at) (seen_before rules table T m [] next.0 here h)
+      (unexpected_rest rules table right T m.state m.steps.items next.0 (drop (m.at + 1) T) here)
 
   module _ (h : length T ≤ m.at) where
     pub token_end : (c : C) (e : Effect) → StandsBy rules table T (symbol.Token c e ∷ m.row) m → IsUnexpectedEnd rules T (length T)

@@ -12,7 +12,7 @@ returns-in_default-choose g c =
     let within : c.args.machine.at < length c.args.tokens.now = omega (arith, c.if-at-tokens.false) in
     line_unexpected g.G.Grammar.rules g.G.Grammar.table g.met.G.Grammar.right c.args.tokens.now c.args.machine c.index-tokens-at.result within (sym c.index-tokens-at.is)
     c.args.line c.requires
-    (subst (λ (k : g.G.Class). first_row (λ row. may_go_on g.G.Grammar.rules g.G.Grammar.table c.args.line row k) (g.G.Grammar.rules.lines c.args.line) ≡ None) c.class_of.ensures
+    (subst (λ (k : g.row.G-Class.Denot). first_row (λ row. may_go_on g.G.Grammar.rules g.G.Grammar.table c.args.line row k) (g.G.Grammar.rules.lines c.args.line) ≡ None) c.class_of.ensures
       (sym c.in_default-choose.ensures))
 
 pub returns-then-at-tokens : goal.returns-then-at-tokens
@@ -30,6 +30,6 @@ returns g c =
       within = c.requires.within;
       stands = line_moves g.G.Grammar.rules g.G.Grammar.table g.met.G.Grammar.right c.args.tokens.now c.args.machine c.index-tokens-at.result within (sym c.index-tokens-at.is)
         c.args.line c.in-Some-choose.chosen.now c.requires
-        (subst (λ (k : g.G.Class). first_row (λ row. may_go_on g.G.Grammar.rules g.G.Grammar.table c.args.line row k) (g.G.Grammar.rules.lines c.args.line) ≡ Some c.in-Some-choose.chosen.now)
+        (subst (λ (k : g.row.G-Class.Denot). first_row (λ row. may_go_on g.G.Grammar.rules g.G.Grammar.table c.args.line row k) (g.G.Grammar.rules.lines c.args.line) ≡ Some c.in-Some-choose.chosen.now)
           c.class_of.ensures (sym c.in-Some-choose.ensures));
     })
