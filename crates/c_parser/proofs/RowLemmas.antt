@@ -1,5 +1,5 @@
 -- One token of look-ahead is enough.
-use Rattle.std.proofs.Common.{◌≡◌, ◌≢◌, ℕ, Bool, true, false, not, ◌&&◌, ◌||◌, zero, suc, List, [], ◌∷◌, ◌++◌, refl, sym, ◌∙◌, ap, subst, take, ◌⊎◌, inl, inr}
+use Rattle.std.proofs.Common.{◌≡◌, ◌≢◌, ℕ, Bool, true, false, not, ◌&&◌, ◌||◌, zero, suc, List, [], ◌∷◌, ◌++◌, refl, sym, ◌∙◌, ap, subst, length, take, ◌⊎◌, inl, inr}
 use Rattle.c_parser.specs.declared.symbol.Turn.{Turn}
 use Rattle.c_parser.specs.declared.symbol.Turn.TheVariants as turn
 use Rattle.c_parser.specs.declared.symbol.Symbol.{Symbol}
@@ -11,6 +11,7 @@ use Rattle.c_parser.specs.Rules.{Row, Rules, OneOf, here, later, same, is_of}
 use Rattle.c_parser.specs.LookAhead.{Table, IsRight, keeps, may_begin, may_be_empty, may_pass, may_go_on}
 use Rattle.c_parser.specs.State.{class_at, after, left, turned}
 use Rattle.c_parser.specs.Rows.{Begins, Reads, IsNot}
+use Rattle.c_parser.specs.File.{taken}
 use Rattle.c_parser.specs.Stands.{Follows}
 use Rattle.c_parser.proofs.Tests.{and_true, both, or_true, either_left, either_right}
 use Rattle.c_parser.proofs.SameLemmas.{same_class, not_same}
@@ -40,6 +41,14 @@ module _ {C L A : Type 0} (rules : Rules C L A) where
   Reads-begins (Reads.make rest) = Begins.make (Reads-begins rest)
   Reads-begins (Reads.turns rest) = Begins.turns (Reads-begins rest)
   Reads-begins (Reads.not_next is_not rest) = Begins.not_next is_not (Reads-begins rest)
+
+  pub Reads-taken : {limit : ℕ} {s : State} {row : Row C L A} {ts : List (Token C)} {steps : List (Step A)} → Reads rules limit s row ts steps → taken steps ≡ length ts
+  Reads-taken Reads.nothing = refl
+  Reads-taken (Reads.token is next rest) = ap suc (Reads-taken rest)
+  Reads-taken (Reads.line body one rest) = Reads-taken rest
+  Reads-taken (Reads.make rest) = Reads-taken rest
+  Reads-taken (Reads.turns rest) = Reads-taken rest
+  Reads-taken (Reads.not_next is_not rest) = Reads-taken rest
 
 module _ {C L A : Type 0} (rules : Rules C L A) (table : Table C L) where
   pass_empty : (row : Row C L A) (c : C) → may_pass rules table row c ≡ true → may_be_empty rules table row ≡ true

@@ -1,9 +1,10 @@
 -- What a file's tokens are to its steps, and which token is refused.
-use Rattle.std.specs.Prelude.{◌≡◌, ℕ, List, [], ◌∷◌, ◌++◌, length}
+use Rattle.std.specs.Prelude.{◌≡◌, ℕ, suc, List, [], ◌∷◌, ◌++◌, length}
 use Rattle.c_parser.specs.declared.symbol.Symbol.{Symbol}
 use Rattle.c_parser.specs.declared.symbol.Symbol.TheVariants as symbol
 use Rattle.c_parser.specs.declared.symbol.Token.{Token}
 use Rattle.c_parser.specs.declared.symbol.Step.{Step}
+use Rattle.c_parser.specs.declared.symbol.Step.TheVariants as step
 use Rattle.c_parser.specs.declared.fault.Cause.{Cause}
 use Rattle.c_parser.specs.declared.fault.Cause.TheVariants as cause
 use Rattle.c_parser.specs.declared.fault.Fault.{Fault}
@@ -11,6 +12,12 @@ use Rattle.c_parser.specs.declared.fault.Fault.TheVariants as fault
 use Rattle.c_parser.specs.State.{start, max_levels}
 use Rattle.c_parser.specs.Rules.{Row, Rules}
 use Rattle.c_parser.specs.Rows.{Begins, Reads}
+
+-- how many tokens the steps take
+abbrev pub taken : {A : Type 0} → List (Step A) → ℕ
+taken [] = 0
+taken (step.Token ∷ steps) = suc (taken steps)
+taken (step.Make a ∷ steps) = taken steps
 
 module _ {C L A : Type 0} (rules : Rules C L A) where
   abbrev pub the_file : Row C L A

@@ -1,8 +1,8 @@
 //! Reads tokens by the grammar, one symbol after another.
 
-ghost use Rattle.std.specs.Prelude.{◌≡◌, ◌++◌, IfOk, IfErr, OnOk};
+ghost use Rattle.std.specs.Prelude.{◌≡◌, ◌++◌, IfOk, IfErr, OnOk, length};
 ghost use Rattle.c_parser.specs.declared.symbol.Symbol.TheVariants as symbol;
-ghost use Rattle.c_parser.specs.File.{IsOnly, IsAnswered, IsRefused};
+ghost use Rattle.c_parser.specs.File.{IsOnly, IsAnswered, IsRefused, taken};
 ghost use Rattle.c_parser.specs.Stands.{StandsBefore, StandsAt, Advances};
 
 use crate::choose::{choose, choose_at_end, is_same};
@@ -13,12 +13,16 @@ use crate::state::{State, before_all, class_of, read, turn};
 use crate::symbol::{Effect, Step, Symbol, Token, Turn};
 use std::alloc::{AllocError, Global};
 
-/// What is still to be read, from a place on, and what has been done.
+/// What is still to be read, and what has been done.
 #[derive(Drop)]
 pub struct Machine<C, L, A> {
+    /// What has been read, as far as later tokens depend on it.
     pub state: State,
+    /// The symbols that are still to be read, the next one on top.
     pub row: Stack<Symbol<C, L, A>>,
+    /// The number of the next token.
     pub at: usize,
+    /// The steps that were done.
     pub steps: Vec<Step<A>>,
 }
 
@@ -198,8 +202,11 @@ fn step<G: Grammar>(
 }
 
 /// The steps of reading the tokens as a file of the grammar.
+///
+/// The time is linear in the tokens, and the only thing that grows with the nesting is a stack in memory.
 pub fn parse<G: Grammar>(alloc: Global, tokens: &[Token<G::Class>]) -> Result<Vec<Step<G::Action>>, Fault>
     ensures steps { IfOk result (λ steps. IsOnly G.rules tokens.now steps.items) }
+    ensures taken { IfOk result (λ steps. taken steps.items ≡ length tokens.now) }
     ensures refused { IfErr result (λ e. IsAnswered G.rules tokens.now e) }
     ensures no_file { IfErr result (λ e. IsRefused G.rules tokens.now e) }
 {
@@ -211,6 +218,7 @@ pub fn parse<G: Grammar>(alloc: Global, tokens: &[Token<G::Class>]) -> Result<Ve
         at: 0,
         steps: Vec::new(alloc),
     };
+    // (no file needs that many turns: there are a few for each token)
     for _ in 0..u64::MAX {
         match machine.row.pop() {
             Some(symbol) => machine = step::<G>(tokens, symbol, machine)?,

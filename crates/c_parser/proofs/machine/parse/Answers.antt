@@ -3,6 +3,7 @@ use Rattle.c_parser.specs.declared.fault.Cause.TheVariants as cause
 use Rattle.c_parser.specs.Rules.{Row}
 use Rattle.c_parser.specs.File.{IsAnswered}
 use Rattle.c_parser.specs.Stands.{Stands}
+use Rattle.c_parser.proofs.RowLemmas.{Reads-taken}
 use Rattle.c_parser.proofs.Steps.{stands_start}
 use Rattle.c_parser.proofs.MoveLemmas.{refused_is_none, error_is_none, rest_unexpected, all_read}
 use Rattle.c_parser.proofs.machine.parse.Goals as goal
@@ -52,3 +53,6 @@ returns-in-None-clause-steps g c =
               Stands g.G.Grammar.rules g.G.Grammar.table c.args.tokens.now c.loop.machine.state row (drop c.loop.machine.at c.args.tokens.now) c.loop.machine.steps.items)
             c.in-None.ensures.0 c.loop.invariant.stands;
     })
+
+pub returns-in-None-clause-taken : goal.returns-in-None-clause-taken
+returns-in-None-clause-taken g c = Reads-taken g.G.Grammar.rules (returns-in-None-clause-steps g c).is
