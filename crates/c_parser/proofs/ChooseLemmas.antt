@@ -1,5 +1,5 @@
 -- What the first row that passes tells.
-use Rattle.std.proofs.Common.{◌≡◌, Bool, true, false, if◌then◌else◌, List, [], ◌∷◌, Option, Some, None, refl, sym, ◌∙◌, ap, subst}
+use Rattle.std.proofs.Common.{◌≡◌, Bool, true, false, if◌then◌else◌, List, [], ◌∷◌, Some, None, refl, subst}
 use Rattle.c_parser.specs.Rules.{Row, OneOf, here, later}
 use Rattle.c_parser.specs.LookAhead.{first_row}
 

@@ -1,4 +1,4 @@
-pub mod Tests
+pub mod Booleans
 pub mod SameLemmas
 pub mod RowLemmas
 pub mod TableCheck

@@ -2,8 +2,6 @@
 use Rattle.std.proofs.Common.{◌≡◌, ◌≢◌, ℕ, zero, suc, ◌+◌, ◌<◌, ◌≤◌, Bool, true, false, List, [], ◌∷◌, ◌++◌, length, take, drop, get_or, Option, Some, None, Result, Ok, Err, IfErr, refl, sym, ◌∙◌, ap, subst, drop-cons, add-one, length-append, length-drop, arith}
 use Rattle.std.proofs.Math.ListN.{drop_of_length-le}
 use Rattle.c_parser.specs.declared.symbol.Effect.{Effect}
-use Rattle.c_parser.specs.declared.symbol.Turn.{Turn}
-use Rattle.c_parser.specs.declared.symbol.Symbol.{Symbol}
 use Rattle.c_parser.specs.declared.symbol.Symbol.TheVariants as symbol
 use Rattle.c_parser.specs.declared.symbol.Token.{Token}
 use Rattle.c_parser.specs.declared.symbol.Step.{Step}
@@ -14,17 +12,17 @@ use Rattle.c_parser.specs.declared.fault.Fault.{Fault}
 use Rattle.c_parser.specs.declared.fault.Fault.TheVariants as fault
 use Rattle.c_parser.specs.declared.state.State.{State}
 use Rattle.c_parser.specs.declared.machine.Machine.{Machine}
-use Rattle.c_parser.specs.Rules.{Row, Rules, OneOf, same}
+use Rattle.c_parser.specs.Rules.{Row, Rules, same}
 use Rattle.c_parser.specs.LookAhead.{Table, IsRight, first_row, may_go_on, may_be_empty}
-use Rattle.c_parser.specs.State.{class_at, after, turned, max_levels}
-use Rattle.c_parser.specs.Rows.{Begins, Reads, IsNot}
+use Rattle.c_parser.specs.State.{class_at, after, max_levels}
+use Rattle.c_parser.specs.Rows.{IsNot}
 use Rattle.c_parser.specs.File.{IsFile, BeginsFile, IsUnexpected, IsTooDeep, IsUnexpectedEnd, IsOnly, IsRefusal, IsAnswered, IsNoFile, IsRefused}
 use Rattle.c_parser.specs.Stands.{Stands, StandsBy}
 use Rattle.c_parser.proofs.SameLemmas.{same_class, same_true}
 use Rattle.c_parser.proofs.TableCheck.{chosen, chosen_at_end}
 use Rattle.c_parser.proofs.ChooseLemmas.{first_found, none_found}
 use Rattle.c_parser.proofs.RowLemmas.{Begins-take, Reads-begins}
-use Rattle.c_parser.proofs.Steps.{after_more, stands_token, stands_line, stands_line_at_end, stands_make, stands_turn, stands_not_next, unexpected_token, unexpected_line, unexpected_next, unexpected_rest, end_token, end_line, too_deep, finished}
+use Rattle.c_parser.proofs.Steps.{after_more, stands_token, stands_line, stands_line_at_end, stands_not_next, unexpected_token, unexpected_line, unexpected_next, unexpected_rest, end_token, end_line, too_deep, finished}
 
 -- there is an element at each place
 element_at : {X : Type 0} (xs : List X) (at : ℕ) → at < length xs → (x : X) × (get_or xs at x ≡ x)
@@ -106,7 +104,7 @@ module _ {C L A : Type 0} (rules : Rules C L A) (table : Table C L) (right : IsR
         let now = here (symbol.Token c e ∷ m.row) st in
         subst (λ (at : ℕ). IsUnexpected rules T at) (seen_before rules table T m (symbol.Token c e ∷ m.row) t now h)
         (unexpected_token rules table right T m.state m.steps.items m.row c e t (drop (m.at + 1) T) now
-          (λ same_class. is_other rules table right c k b tested is_not (known ∙ same_class)))
+        (λ same_class. is_other rules table right c k b tested is_not (known ∙ same_class)))
 
     pub token_too_deep : (c : C) (e : Effect) → StandsBy rules table T (symbol.Token c e ∷ m.row) m → (b : Bool) → b ≡ same rules k c → b ≡ true
         → (read : Option State) → read ≡ after max_levels e m.state t → read ≡ None → IsTooDeep rules T m.at
@@ -114,7 +112,7 @@ module _ {C L A : Type 0} (rules : Rules C L A) (table : Table C L) (right : IsR
         let now = here (symbol.Token c e ∷ m.row) st in
         subst (λ (at : ℕ). IsTooDeep rules T at) (seen_before rules table T m (symbol.Token c e ∷ m.row) t now h)
         (too_deep rules table right T m.state m.steps.items m.row c e t (drop (m.at + 1) T) now
-          (sym known ∙ is_class rules table right c k b tested is_it) (sym reads ∙ is_none))
+        (sym known ∙ is_class rules table right c k b tested is_it) (sym reads ∙ is_none))
 
     -- what goes on with the class goes on with that of the token
     at_class : (l : L) (found : Option (Row C L A)) → found ≡ first_row (λ row. may_go_on rules table l row k) (rules.lines l)
@@ -127,7 +125,7 @@ module _ {C L A : Type 0} (rules : Rules C L A) (table : Table C L) (right : IsR
         let found = first_found (λ row. may_go_on rules table l row (class_at rules m.state t)) (rules.lines l) body (at_class l (Some body) is_found) in
         back (body ++ m.row)
         (stands_line rules table right T m.state m.steps.items m.row l body t (drop (m.at + 1) T) (here (symbol.Line l ∷ m.row) st)
-          (chosen rules table right l (class_at rules m.state t) body found.0 found.1))
+        (chosen rules table right l (class_at rules m.state t) body found.0 found.1))
 
     pub line_unexpected : (l : L) → StandsBy rules table T (symbol.Line l ∷ m.row) m
         → None ≡ first_row (λ row. may_go_on rules table l row k) (rules.lines l) → IsUnexpected rules T m.at
@@ -135,7 +133,7 @@ module _ {C L A : Type 0} (rules : Rules C L A) (table : Table C L) (right : IsR
         let now = here (symbol.Line l ∷ m.row) st in
         subst (λ (at : ℕ). IsUnexpected rules T at) (seen_before rules table T m (symbol.Line l ∷ m.row) t now h)
         (unexpected_line rules table right T m.state m.steps.items m.row l t (drop (m.at + 1) T) now
-          (none_found (λ row. may_go_on rules table l row (class_at rules m.state t)) (rules.lines l) (at_class l None is_none)))
+        (none_found (λ row. may_go_on rules table l row (class_at rules m.state t)) (rules.lines l) (at_class l None is_none)))
 
     pub next_unexpected : (c : C) → StandsBy rules table T (symbol.NotNext c ∷ m.row) m → (b : Bool) → b ≡ same rules k c → b ≡ true → IsUnexpected rules T m.at
     next_unexpected c st b tested is_it =
@@ -148,7 +146,7 @@ module _ {C L A : Type 0} (rules : Rules C L A) (table : Table C L) (right : IsR
     next_passes c st b tested is_not =
         stands_not_next rules table right T m.state m.steps.items m.row c (drop m.at T) st.stands
         (subst (λ (rest : List (Token C)). IsNot rules m.state c rest) (sym (next_is T m.at t h (sym is)))
-          (λ same_class. is_other rules table right c k b tested is_not (known ∙ same_class)))
+        (λ same_class. is_other rules table right c k b tested is_not (known ∙ same_class)))
 
   -- a token after the end
   pub rest_unexpected : m.at < length T → StandsBy rules table T [] m → IsUnexpected rules T m.at
@@ -174,7 +172,7 @@ module _ {C L A : Type 0} (rules : Rules C L A) (table : Table C L) (right : IsR
         let found = first_found (λ row. may_be_empty rules table row) (rules.lines l) body (sym first) in
         subst (λ (rest : List (Token C)). Stands rules table T m.state (body ++ m.row) rest m.steps.items) (sym (drop_of_length-le T h))
         (stands_line_at_end rules table right T m.state m.steps.items m.row l body (at_end rules table T m (symbol.Line l ∷ m.row) h st)
-          (chosen_at_end rules table right l body found.0 found.1))
+        (chosen_at_end rules table right l body found.0 found.1))
 
     pub next_passes_end : (c : C) → StandsBy rules table T (symbol.NotNext c ∷ m.row) m → Stands rules table T m.state m.row (drop m.at T) m.steps.items
     next_passes_end c st =

@@ -1,21 +1,20 @@
 -- One token of look-ahead is enough.
-use Rattle.std.proofs.Common.{◌≡◌, ◌≢◌, ℕ, Bool, true, false, not, ◌&&◌, ◌||◌, zero, suc, List, [], ◌∷◌, ◌++◌, refl, sym, ◌∙◌, ap, subst, length, take, ◌⊎◌, inl, inr}
+use Rattle.std.proofs.Common.{◌≡◌, ℕ, true, false, not, ◌&&◌, zero, suc, List, [], ◌∷◌, ◌++◌, refl, sym, ap, subst, length, take, ◌⊎◌, inl, inr}
 use Rattle.c_parser.specs.declared.symbol.Turn.{Turn}
 use Rattle.c_parser.specs.declared.symbol.Turn.TheVariants as turn
-use Rattle.c_parser.specs.declared.symbol.Symbol.{Symbol}
 use Rattle.c_parser.specs.declared.symbol.Symbol.TheVariants as symbol
 use Rattle.c_parser.specs.declared.symbol.Token.{Token}
 use Rattle.c_parser.specs.declared.symbol.Step.{Step}
 use Rattle.c_parser.specs.declared.state.State.{State}
-use Rattle.c_parser.specs.Rules.{Row, Rules, OneOf, here, later, same, is_of}
-use Rattle.c_parser.specs.LookAhead.{Table, IsRight, keeps, may_begin, may_be_empty, may_pass, may_go_on}
-use Rattle.c_parser.specs.State.{class_at, after, left, turned}
+use Rattle.c_parser.specs.Rules.{Row, Rules, OneOf, same, is_of}
+use Rattle.c_parser.specs.LookAhead.{Table, IsRight, may_begin, may_be_empty, may_pass, may_go_on}
+use Rattle.c_parser.specs.State.{class_at, left, turned}
 use Rattle.c_parser.specs.Rows.{Begins, Reads, IsNot}
 use Rattle.c_parser.specs.File.{taken}
 use Rattle.c_parser.specs.Stands.{Follows}
-use Rattle.c_parser.proofs.Tests.{and_true, both, or_true, either_left, either_right}
+use Rattle.c_parser.proofs.Booleans.{and_true, both, or_true, either_left, either_right}
 use Rattle.c_parser.proofs.SameLemmas.{same_class, not_same}
-use Rattle.c_parser.proofs.TableCheck.{FollowsIn, Holds, Chosen, ChosenAtEnd, holds}
+use Rattle.c_parser.proofs.TableCheck.{FollowsIn, Chosen, ChosenAtEnd, holds}
 
 module _ {C L A : Type 0} (rules : Rules C L A) where
   -- what begins a row may end earlier

@@ -1,5 +1,5 @@
 -- The test on classes.
-use Rattle.std.proofs.Common.{◌≡◌, ◌≢◌, ℕ, Bool, true, false, not, ◌==◌, Option, Some, refl, sym, ◌∙◌, ap, eq-eqb, eqb-true}
+use Rattle.std.proofs.Common.{◌≡◌, ◌≢◌, true, false, not, Some, sym, ◌∙◌, ap, eq-eqb, eqb-true}
 use Rattle.std.proofs.lemmas.Bool.{ne_eqb}
 use Rattle.c_parser.specs.Rules.{Rules, same}
 use Rattle.c_parser.specs.LookAhead.{nth, Table, IsRight}

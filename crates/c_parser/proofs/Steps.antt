@@ -1,10 +1,9 @@
 -- Each step of the machine keeps where it stands, or shows a refusal.
-use Rattle.std.proofs.Common.{◌≡◌, ◌≢◌, ℕ, zero, suc, ◌+◌, ◌<◌, ◌≤◌, Bool, true, false, List, [], ◌∷◌, ◌++◌, length, take, drop, Option, Some, None, refl, sym, ◌∙◌, ap, subst, append_assoc, append-nil, arith, rules, lt-ltb}
+use Rattle.std.proofs.Common.{◌≡◌, ◌≢◌, ℕ, zero, suc, ◌+◌, ◌≤◌, false, List, [], ◌∷◌, ◌++◌, length, take, Some, None, refl, sym, ◌∙◌, ap, subst, append_assoc, append-nil, arith, rules, lt-ltb}
 use Rattle.std.proofs.lemmas.Bool.Decides.{nat_tests}
 use Rattle.c_parser.specs.declared.symbol.Effect.{Effect}
 use Rattle.c_parser.specs.declared.symbol.Effect.TheVariants as effect
 use Rattle.c_parser.specs.declared.symbol.Turn.{Turn}
-use Rattle.c_parser.specs.declared.symbol.Symbol.{Symbol}
 use Rattle.c_parser.specs.declared.symbol.Symbol.TheVariants as symbol
 use Rattle.c_parser.specs.declared.symbol.Token.{Token}
 use Rattle.c_parser.specs.declared.symbol.Step.{Step}
@@ -118,8 +117,7 @@ module _ {C L A : Type 0} (rules : Rules C L A) (table : Table C L) (right : IsR
               let back = token_reads rules before.2 in
               let know = moves limit h in
               let was = back.2 in
-              let same_state : back.1 ≡ next = cc in
-              (
+              let same_state : back.1 ≡ next = cc in (
                 back.3,
                 told back.3 ∙ ap (λ (steps : List (Step A)). done ++ steps) back.4 ∙ before.1,
                 subst (λ (x : State). Reads rules limit x row rest back.3) same_state back.5,

@@ -1,10 +1,9 @@
 -- What the test of the table gives.
-use Rattle.std.proofs.Common.{◌≡◌, Bool, true, false, not, ◌&&◌, ◌||◌, List, [], ◌∷◌, refl, sym, ◌∙◌, ap, subst}
-use Rattle.c_parser.specs.declared.symbol.Symbol.{Symbol}
+use Rattle.std.proofs.Common.{◌≡◌, Bool, true, not, ◌&&◌, List, [], ◌∷◌, refl}
 use Rattle.c_parser.specs.declared.symbol.Symbol.TheVariants as symbol
 use Rattle.c_parser.specs.Rules.{Row, Rules, OneOf, here, later, is_of}
-use Rattle.c_parser.specs.LookAhead.{Table, IsRight, every, implies, may_begin, may_be_empty, may_pass, may_go_on, follows_at, row_holds, one_at_most, line_holds, table_holds}
-use Rattle.c_parser.proofs.Tests.{and_true, implied, not_true, every_at}
+use Rattle.c_parser.specs.LookAhead.{Table, IsRight, every, implies, may_begin, may_be_empty, may_go_on, follows_at, row_holds, one_at_most, line_holds}
+use Rattle.c_parser.proofs.Booleans.{and_true, implied, not_true, every_at}
 
 module _ {C L A : Type 0} (rules : Rules C L A) (table : Table C L) where
   -- what may come after the lines of a row of the line `l` may come after them by the table
@@ -98,10 +97,9 @@ module _ {C L A : Type 0} (rules : Rules C L A) (table : Table C L) where
     follows_in l (symbol.NotNext d ∷ row) h = follows_in l row h
     follows_in l (symbol.Line m ∷ row) h =
         let first : (c : C) → implies (may_begin rules table row c) (is_of rules c (table.follow m)) ≡ true =
-            λ c. (and_true (implies (may_begin rules table row c) (is_of rules c (table.follow m))) _ (h c)).0 in
+        λ c. (and_true (implies (may_begin rules table row c) (is_of rules c (table.follow m))) _ (h c)).0 in
         let others : (c : C) → (implies (may_be_empty rules table row) (implies (is_of rules c (table.follow l)) (is_of rules c (table.follow m))) && follows_at rules table l c row) ≡ true =
-            λ c. (and_true (implies (may_begin rules table row c) (is_of rules c (table.follow m))) _ (h c)).1 in
-        (
+        λ c. (and_true (implies (may_begin rules table row c) (is_of rules c (table.follow m))) _ (h c)).1 in (
           (λ c begins. implied _ _ (first c) begins),
           (λ empties c follows.
               implied _ _ (implied _ _ (and_true (implies (may_be_empty rules table row) (implies (is_of rules c (table.follow l)) (is_of rules c (table.follow m)))) _ (others c)).0 empties) follows),

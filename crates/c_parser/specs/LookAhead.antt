@@ -2,7 +2,6 @@
 use Rattle.std.specs.Prelude.{◌≡◌, ℕ, zero, suc, Bool, true, false, not, ◌&&◌, ◌||◌, if◌then◌else◌, List, [], ◌∷◌, Option, Some, None}
 use Rattle.c_parser.specs.declared.symbol.Turn.{Turn}
 use Rattle.c_parser.specs.declared.symbol.Turn.TheVariants as turn
-use Rattle.c_parser.specs.declared.symbol.Symbol.{Symbol}
 use Rattle.c_parser.specs.declared.symbol.Symbol.TheVariants as symbol
 use Rattle.c_parser.specs.Rules.{Row, Rules, same, is_of}
 

@@ -1,8 +1,7 @@
 -- What a row of symbols reads, and what begins it.
-use Rattle.std.specs.Prelude.{◌≡◌, ◌≢◌, ℕ, List, [], ◌∷◌, ◌++◌, Option, Some}
+use Rattle.std.specs.Prelude.{◌≡◌, ◌≢◌, ℕ, List, [], ◌∷◌, ◌++◌, Some}
 use Rattle.c_parser.specs.declared.symbol.Effect.{Effect}
 use Rattle.c_parser.specs.declared.symbol.Turn.{Turn}
-use Rattle.c_parser.specs.declared.symbol.Symbol.{Symbol}
 use Rattle.c_parser.specs.declared.symbol.Symbol.TheVariants as symbol
 use Rattle.c_parser.specs.declared.symbol.Token.{Token}
 use Rattle.c_parser.specs.declared.symbol.Step.{Step}

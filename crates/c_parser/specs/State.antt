@@ -1,5 +1,5 @@
 -- How tokens and turns change the state.
-use Rattle.std.specs.Prelude.{ℕ, ◌+◌, Bool, true, false, ◌&&◌, ◌||◌, ◌==◌, if◌then◌else◌, nat_lt, List, [], ◌∷◌, ◌++◌, Option, Some, None}
+use Rattle.std.specs.Prelude.{ℕ, ◌+◌, ◌&&◌, if◌then◌else◌, nat_lt, List, [], ◌∷◌, Option, Some, None}
 use Rattle.c_parser.specs.declared.symbol.Effect.{Effect}
 use Rattle.c_parser.specs.declared.symbol.Effect.TheVariants as effect
 use Rattle.c_parser.specs.declared.symbol.Turn.{Turn}

@@ -102,14 +102,21 @@ fn may_be_empty<G: Grammar>(mut row: &[Symbol<G::Class, G::Line, G::Action>]) ->
     true
 }
 
-fn may_go_on<G: Grammar>(line: G::Line, row: &[Symbol<G::Class, G::Line, G::Action>], class: G::Class) -> bool
+fn may_go_on<G: Grammar>(
+    line: G::Line,
+    row: &[Symbol<G::Class, G::Line, G::Action>],
+    class: G::Class,
+) -> bool
     ensures { result ≡ may_go_on G.rules G.table line row.now class }
 {
     may_begin::<G>(row, class) || (may_pass::<G>(row, class) && is_of::<G>(class, G::follow(line)))
 }
 
 /// The alternative of the line that can be read where a token of the class is next.
-pub fn choose<G: Grammar>(line: G::Line, class: G::Class) -> Option<&'static [Symbol<G::Class, G::Line, G::Action>]>
+pub fn choose<G: Grammar>(
+    line: G::Line,
+    class: G::Class,
+) -> Option<&'static [Symbol<G::Class, G::Line, G::Action>]>
     ensures { option_copied result ≡ first_row (λ row. may_go_on G.rules G.table line row class) (G.rules.lines line) }
 {
     let mut rows = G::alternatives(line);
@@ -123,7 +130,9 @@ pub fn choose<G: Grammar>(line: G::Line, class: G::Class) -> Option<&'static [Sy
 }
 
 /// The alternative of the line that can be read where no token is left.
-pub fn choose_at_end<G: Grammar>(line: G::Line) -> Option<&'static [Symbol<G::Class, G::Line, G::Action>]>
+pub fn choose_at_end<G: Grammar>(
+    line: G::Line,
+) -> Option<&'static [Symbol<G::Class, G::Line, G::Action>]>
     ensures { option_copied result ≡ first_row (λ row. may_be_empty G.rules G.table row) (G.rules.lines line) }
 {
     let mut rows = G::alternatives(line);

@@ -36,7 +36,9 @@ pub trait Grammar {
         ensures { result ≡ rules.start };
 
     /// What a line may read, each as a row of symbols.
-    fn alternatives(line: Self::Line) -> &'static [&'static [Symbol<Self::Class, Self::Line, Self::Action>]]
+    fn alternatives(
+        line: Self::Line,
+    ) -> &'static [&'static [Symbol<Self::Class, Self::Line, Self::Action>]]
         ensures { map (λ row. row.now) result.now ≡ rules.lines line };
 
     /// The classes of tokens that may come first in a line.

@@ -14,6 +14,3 @@ pub use fault::{Cause, Fault};
 pub use grammar::Grammar;
 pub use machine::parse;
 pub use symbol::{Effect, Step, Symbol, Token, Turn};
-
-#[cfg(test)]
-mod tests;

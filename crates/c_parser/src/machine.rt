@@ -204,7 +204,10 @@ fn step<G: Grammar>(
 /// The steps of reading the tokens as a file of the grammar.
 ///
 /// The time is linear in the tokens, and the only thing that grows with the nesting is a stack in memory.
-pub fn parse<G: Grammar>(alloc: Global, tokens: &[Token<G::Class>]) -> Result<Vec<Step<G::Action>>, Fault>
+pub fn parse<G: Grammar>(
+    alloc: Global,
+    tokens: &[Token<G::Class>],
+) -> Result<Vec<Step<G::Action>>, Fault>
     ensures steps { IfOk result (λ steps. IsOnly G.rules tokens.now steps.items) }
     ensures taken { IfOk result (λ steps. taken steps.items ≡ length tokens.now) }
     ensures refused { IfErr result (λ e. IsAnswered G.rules tokens.now e) }

@@ -51,7 +51,11 @@ pub fn before_all(alloc: Global) -> State
 
 /// The state after a token, if a level may still be opened.
 #[tactic(auto, unfolding(crate::specs::State::after))]
-pub fn read<C: Copy>(effect: Effect, state: State, token: Token<C>) -> Result<Option<State>, AllocError>
+pub fn read<C: Copy>(
+    effect: Effect,
+    state: State,
+    token: Token<C>,
+) -> Result<Option<State>, AllocError>
     ensures { IfOk result (λ next. next ≡ after max_levels effect state token) }
 {
     let State {

@@ -42,43 +42,91 @@ pub enum Action {
     Type,
 }
 
-static FILE: [&[Symbol<Class, Line, Action>]; 1] = [
-    &[Symbol::Line(Line::Item), Symbol::Make(Action::Item), Symbol::Line(Line::Items)],
-];
+static FILE: [&[Symbol<Class, Line, Action>]; 1] = [&[
+    Symbol::Line(Line::Item),
+    Symbol::Make(Action::Item),
+    Symbol::Line(Line::Items),
+]];
 
 static ITEMS: [&[Symbol<Class, Line, Action>]; 2] = [
-    &[Symbol::Line(Line::Item), Symbol::Make(Action::Item), Symbol::Line(Line::Items)],
+    &[
+        Symbol::Line(Line::Item),
+        Symbol::Make(Action::Item),
+        Symbol::Line(Line::Items),
+    ],
     &[],
 ];
 
 static ITEM: [&[Symbol<Class, Line, Action>]; 3] = [
-    &[Symbol::Token(Class::Typedef, Effect::Nothing), Symbol::Token(Class::Name, Effect::Declares), Symbol::Token(Class::Semicolon, Effect::Nothing), Symbol::Turn(Turn::Learn), Symbol::Make(Action::Typedef)],
-    &[Symbol::Line(Line::List), Symbol::Token(Class::Semicolon, Effect::Nothing), Symbol::Make(Action::List)],
-    &[Symbol::Turn(Turn::Enter), Symbol::Token(Class::If, Effect::Opens), Symbol::Line(Line::Item), Symbol::Line(Line::ElsePart), Symbol::Turn(Turn::Leave)],
+    &[
+        Symbol::Token(Class::Typedef, Effect::Nothing),
+        Symbol::Token(Class::Name, Effect::Declares),
+        Symbol::Token(Class::Semicolon, Effect::Nothing),
+        Symbol::Turn(Turn::Learn),
+        Symbol::Make(Action::Typedef),
+    ],
+    &[
+        Symbol::Line(Line::List),
+        Symbol::Token(Class::Semicolon, Effect::Nothing),
+        Symbol::Make(Action::List),
+    ],
+    &[
+        Symbol::Turn(Turn::Enter),
+        Symbol::Token(Class::If, Effect::Opens),
+        Symbol::Line(Line::Item),
+        Symbol::Line(Line::ElsePart),
+        Symbol::Turn(Turn::Leave),
+    ],
 ];
 
 static ELSE_PART: [&[Symbol<Class, Line, Action>]; 2] = [
-    &[Symbol::Token(Class::Else, Effect::Nothing), Symbol::Line(Line::Item), Symbol::Make(Action::IfElse)],
+    &[
+        Symbol::Token(Class::Else, Effect::Nothing),
+        Symbol::Line(Line::Item),
+        Symbol::Make(Action::IfElse),
+    ],
     &[Symbol::NotNext(Class::Else), Symbol::Make(Action::If)],
 ];
 
-static LIST: [&[Symbol<Class, Line, Action>]; 1] = [
-    &[Symbol::Turn(Turn::Enter), Symbol::Token(Class::LeftParen, Effect::Opens), Symbol::Line(Line::Members)],
-];
+static LIST: [&[Symbol<Class, Line, Action>]; 1] = [&[
+    Symbol::Turn(Turn::Enter),
+    Symbol::Token(Class::LeftParen, Effect::Opens),
+    Symbol::Line(Line::Members),
+]];
 
 static MEMBERS: [&[Symbol<Class, Line, Action>]; 2] = [
-    &[Symbol::Token(Class::RightParen, Effect::Nothing), Symbol::Turn(Turn::Leave), Symbol::Make(Action::End)],
-    &[Symbol::Line(Line::Member), Symbol::Make(Action::Member), Symbol::Line(Line::MoreMembers)],
+    &[
+        Symbol::Token(Class::RightParen, Effect::Nothing),
+        Symbol::Turn(Turn::Leave),
+        Symbol::Make(Action::End),
+    ],
+    &[
+        Symbol::Line(Line::Member),
+        Symbol::Make(Action::Member),
+        Symbol::Line(Line::MoreMembers),
+    ],
 ];
 
 static MORE_MEMBERS: [&[Symbol<Class, Line, Action>]; 2] = [
-    &[Symbol::Token(Class::Comma, Effect::Nothing), Symbol::Line(Line::Member), Symbol::Make(Action::Member), Symbol::Line(Line::MoreMembers)],
-    &[Symbol::Token(Class::RightParen, Effect::Nothing), Symbol::Turn(Turn::Leave), Symbol::Make(Action::End)],
+    &[
+        Symbol::Token(Class::Comma, Effect::Nothing),
+        Symbol::Line(Line::Member),
+        Symbol::Make(Action::Member),
+        Symbol::Line(Line::MoreMembers),
+    ],
+    &[
+        Symbol::Token(Class::RightParen, Effect::Nothing),
+        Symbol::Turn(Turn::Leave),
+        Symbol::Make(Action::End),
+    ],
 ];
 
 static MEMBER: [&[Symbol<Class, Line, Action>]; 3] = [
     &[Symbol::Token(Class::Name, Effect::Nothing)],
-    &[Symbol::Token(Class::TypeName, Effect::Nothing), Symbol::Make(Action::Type)],
+    &[
+        Symbol::Token(Class::TypeName, Effect::Nothing),
+        Symbol::Make(Action::Type),
+    ],
     &[Symbol::Line(Line::List)],
 ];
 
@@ -102,7 +150,12 @@ static LIST_FIRST: [Class; 1] = [Class::LeftParen];
 
 static LIST_FOLLOW: [Class; 3] = [Class::RightParen, Class::Comma, Class::Semicolon];
 
-static MEMBERS_FIRST: [Class; 4] = [Class::Name, Class::TypeName, Class::LeftParen, Class::RightParen];
+static MEMBERS_FIRST: [Class; 4] = [
+    Class::Name,
+    Class::TypeName,
+    Class::LeftParen,
+    Class::RightParen,
+];
 
 static MEMBERS_FOLLOW: [Class; 3] = [Class::RightParen, Class::Comma, Class::Semicolon];
 
@@ -123,7 +176,9 @@ impl Grammar for Lists {
     ghost use Rattle.parse_examples.specs.GrammarHolds.{is_right};
 
     type Class = Class;
+
     type Line = Line;
+
     type Action = Action;
 
     ghost rules = { rules };

@@ -68,8 +68,14 @@ fn fault(alloc: Global, text: &[u8]) -> Result<Fault, Fail> {
 fn lists_in_lists(rt: HostRuntime) -> Result<(), Fail> {
     let alloc = rt.alloc();
     assert_eq!(rt; steps(alloc, b"();")?.as_slice(), b"..e.LI".as_slice());
-    assert_eq!(rt; steps(alloc, b"(a,(b),());")?.as_slice(), b"..m...m.em...em.e.LI".as_slice());
-    assert_eq!(rt; steps(alloc, b"();();")?.as_slice(), b"..e.LI..e.LI".as_slice());
+    assert_eq!(rt;
+        steps(alloc, b"(a,(b),());")?.as_slice(),
+        b"..m...m.em...em.e.LI".as_slice()
+    );
+    assert_eq!(rt;
+        steps(alloc, b"();();")?.as_slice(),
+        b"..e.LI..e.LI".as_slice()
+    );
     Ok(())
 }
 
@@ -77,9 +83,18 @@ fn lists_in_lists(rt: HostRuntime) -> Result<(), Fail> {
 #[test]
 fn declared_names(rt: HostRuntime) -> Result<(), Fail> {
     let alloc = rt.alloc();
-    assert_eq!(rt; steps(alloc, b"Ta;(a,b);")?.as_slice(), b"...TI..tm..m.e.LI".as_slice());
-    assert_eq!(rt; steps(alloc, b"Tb;Ta;(b,a);")?.as_slice(), b"...TI...TI..tm..tm.e.LI".as_slice());
-    assert_eq!(rt; fault(alloc, b"Ta;Ta;")?, Fault::Refused(4, Cause::Unexpected));
+    assert_eq!(rt;
+        steps(alloc, b"Ta;(a,b);")?.as_slice(),
+        b"...TI..tm..m.e.LI".as_slice()
+    );
+    assert_eq!(rt;
+        steps(alloc, b"Tb;Ta;(b,a);")?.as_slice(),
+        b"...TI...TI..tm..tm.e.LI".as_slice()
+    );
+    assert_eq!(rt;
+        fault(alloc, b"Ta;Ta;")?,
+        Fault::Refused(4, Cause::Unexpected)
+    );
     Ok(())
 }
 
@@ -88,8 +103,14 @@ fn declared_names(rt: HostRuntime) -> Result<(), Fail> {
 fn dangling_else(rt: HostRuntime) -> Result<(), Fail> {
     let alloc = rt.alloc();
     assert_eq!(rt; steps(alloc, b"I();")?.as_slice(), b"...e.LFI".as_slice());
-    assert_eq!(rt; steps(alloc, b"II();E();")?.as_slice(), b"....e.L...e.LEFI".as_slice());
-    assert_eq!(rt; steps(alloc, b"II();E();E();")?.as_slice(), b"....e.L...e.LE...e.LEI".as_slice());
+    assert_eq!(rt;
+        steps(alloc, b"II();E();")?.as_slice(),
+        b"....e.L...e.LEFI".as_slice()
+    );
+    assert_eq!(rt;
+        steps(alloc, b"II();E();E();")?.as_slice(),
+        b"....e.L...e.LE...e.LEI".as_slice()
+    );
     Ok(())
 }
 
@@ -97,10 +118,22 @@ fn dangling_else(rt: HostRuntime) -> Result<(), Fail> {
 fn first_refused_token(rt: HostRuntime) -> Result<(), Fail> {
     let alloc = rt.alloc();
     assert_eq!(rt; fault(alloc, b";")?, Fault::Refused(0, Cause::Unexpected));
-    assert_eq!(rt; fault(alloc, b"(a,);")?, Fault::Refused(3, Cause::Unexpected));
-    assert_eq!(rt; fault(alloc, b"(a b,,);")?, Fault::Refused(2, Cause::Unexpected));
-    assert_eq!(rt; fault(alloc, b"(a);)")?, Fault::Refused(4, Cause::Unexpected));
-    assert_eq!(rt; fault(alloc, b"();E();")?, Fault::Refused(3, Cause::Unexpected));
+    assert_eq!(rt;
+        fault(alloc, b"(a,);")?,
+        Fault::Refused(3, Cause::Unexpected)
+    );
+    assert_eq!(rt;
+        fault(alloc, b"(a b,,);")?,
+        Fault::Refused(2, Cause::Unexpected)
+    );
+    assert_eq!(rt;
+        fault(alloc, b"(a);)")?,
+        Fault::Refused(4, Cause::Unexpected)
+    );
+    assert_eq!(rt;
+        fault(alloc, b"();E();")?,
+        Fault::Refused(3, Cause::Unexpected)
+    );
     Ok(())
 }
 
@@ -108,10 +141,22 @@ fn first_refused_token(rt: HostRuntime) -> Result<(), Fail> {
 fn early_end(rt: HostRuntime) -> Result<(), Fail> {
     let alloc = rt.alloc();
     assert_eq!(rt; fault(alloc, b"")?, Fault::Refused(0, Cause::UnexpectedEnd));
-    assert_eq!(rt; fault(alloc, b"(a")?, Fault::Refused(2, Cause::UnexpectedEnd));
-    assert_eq!(rt; fault(alloc, b"(a)")?, Fault::Refused(3, Cause::UnexpectedEnd));
-    assert_eq!(rt; fault(alloc, b"I")?, Fault::Refused(1, Cause::UnexpectedEnd));
-    assert_eq!(rt; fault(alloc, b"I();E")?, Fault::Refused(5, Cause::UnexpectedEnd));
+    assert_eq!(rt;
+        fault(alloc, b"(a")?,
+        Fault::Refused(2, Cause::UnexpectedEnd)
+    );
+    assert_eq!(rt;
+        fault(alloc, b"(a)")?,
+        Fault::Refused(3, Cause::UnexpectedEnd)
+    );
+    assert_eq!(rt;
+        fault(alloc, b"I")?,
+        Fault::Refused(1, Cause::UnexpectedEnd)
+    );
+    assert_eq!(rt;
+        fault(alloc, b"I();E")?,
+        Fault::Refused(5, Cause::UnexpectedEnd)
+    );
     Ok(())
 }
 
@@ -133,13 +178,26 @@ fn hundred_levels(rt: HostRuntime) -> Result<(), Fail> {
     let deeper = repeated(alloc, &[(b"(", 101), (b")", 101), (b";", 1)])?;
     assert_eq!(rt; fault(alloc, &deeper)?, Fault::Refused(100, Cause::TooDeep));
     // the levels of a part are closed at its end
-    let twice = repeated(alloc, &[(b"(", 100), (b")", 99), (b",", 1), (b"(", 99), (b")", 100), (b";", 1)])?;
+    let twice = repeated(
+        alloc,
+        &[
+            (b"(", 100),
+            (b")", 99),
+            (b",", 1),
+            (b"(", 99),
+            (b")", 100),
+            (b";", 1),
+        ],
+    )?;
     assert_eq!(rt; steps(alloc, &twice)?.is_empty(), false);
     // an if opens a level too
     let mixed = repeated(alloc, &[(b"I", 60), (b"(", 41)])?;
     assert_eq!(rt; fault(alloc, &mixed)?, Fault::Refused(100, Cause::TooDeep));
     // a token that no number of levels would let stand is unexpected
     let wrong = repeated(alloc, &[(b"(", 100), (b";", 1)])?;
-    assert_eq!(rt; fault(alloc, &wrong)?, Fault::Refused(100, Cause::Unexpected));
+    assert_eq!(rt;
+        fault(alloc, &wrong)?,
+        Fault::Refused(100, Cause::Unexpected)
+    );
     Ok(())
 }

@@ -1,6 +1,5 @@
 use Rattle.std.proofs.Common.{◌≡◌, map, length}
-use Rattle.c_parser.specs.Rules.{is_of}
-use Rattle.c_parser.specs.LookAhead.{may_begin, may_pass, may_be_empty, may_go_on, first_row}
+use Rattle.c_parser.specs.LookAhead.{may_be_empty, first_row}
 use Rattle.c_parser.proofs.choose.choose_at_end.Given as goal
 
 abbrev pub invariant-loop-rows : goal.invariant-loop-rows

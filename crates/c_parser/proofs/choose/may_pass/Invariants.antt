@@ -1,6 +1,5 @@
-use Rattle.std.proofs.Common.{◌≡◌, map, length}
-use Rattle.c_parser.specs.Rules.{is_of}
-use Rattle.c_parser.specs.LookAhead.{may_begin, may_pass, may_be_empty, may_go_on, first_row}
+use Rattle.std.proofs.Common.{◌≡◌, length}
+use Rattle.c_parser.specs.LookAhead.{may_pass}
 use Rattle.c_parser.proofs.choose.may_pass.Given as goal
 
 abbrev pub invariant-loop-row : goal.invariant-loop-row

@@ -8,5 +8,5 @@ returns g c = record {
   stands =
       rw c.in_ok-push.ensures.items
       (stands_make g.G.Grammar.rules g.G.Grammar.table g.met.G.Grammar.right c.args.tokens.now c.args.machine.state c.args.machine.steps.items c.args.machine.row c.args.action
-        (drop c.args.machine.at c.args.tokens.now) c.requires.stands);
+      (drop c.args.machine.at c.args.tokens.now) c.requires.stands);
 }

@@ -1,4 +1,4 @@
-use Rattle.std.proofs.Common.{◌≤◌, ◌<◌, length, arith}
+use Rattle.std.proofs.Common.{arith}
 use Rattle.c_parser.proofs.MoveLemmas.{line_moves, line_unexpected, line_end, line_end_moves}
 use Rattle.c_parser.proofs.machine.expand.Goals as goal
 

@@ -1,4 +1,4 @@
-use Rattle.std.proofs.Common.{◌≡◌, ◌≤◌, ◌<◌, length, List, drop, IfErr, subst, rules, arith}
+use Rattle.std.proofs.Common.{drop, IfErr, subst, rules, arith}
 use Rattle.c_parser.specs.declared.fault.Cause.TheVariants as cause
 use Rattle.c_parser.specs.Rules.{Row}
 use Rattle.c_parser.specs.File.{IsAnswered}
@@ -21,8 +21,8 @@ step-requires-after_bounds g c = λ lives outlive. record {
   within = c.loop.invariant.within;
   stands =
       subst (λ (row : Row g.row.G-Class.Denot g.row.G-Line.Denot g.row.G-Action.Denot).
-          Stands g.G.Grammar.rules g.G.Grammar.table c.args.tokens.now c.loop.machine.state row (drop c.loop.machine.at c.args.tokens.now) c.loop.machine.steps.items)
-        c.in-Some.ensures c.loop.invariant.stands;
+      Stands g.G.Grammar.rules g.G.Grammar.table c.args.tokens.now c.loop.machine.state row (drop c.loop.machine.at c.args.tokens.now) c.loop.machine.steps.items)
+      c.in-Some.ensures c.loop.invariant.stands;
 }
 
 pub returns-in_err-machine-in-Some-clause-no_file : goal.returns-in_err-machine-in-Some-clause-no_file
@@ -36,8 +36,8 @@ returns-then-machine-tokens-clause-refused g c =
       within = c.loop.invariant.within;
       stands =
           subst (λ (row : Row g.row.G-Class.Denot g.row.G-Line.Denot g.row.G-Action.Denot).
-              Stands g.G.Grammar.rules g.G.Grammar.table c.args.tokens.now c.loop.machine.state row (drop c.loop.machine.at c.args.tokens.now) c.loop.machine.steps.items)
-            c.in-None.ensures.0 c.loop.invariant.stands;
+          Stands g.G.Grammar.rules g.G.Grammar.table c.args.tokens.now c.loop.machine.state row (drop c.loop.machine.at c.args.tokens.now) c.loop.machine.steps.items)
+          c.in-None.ensures.0 c.loop.invariant.stands;
     })
 
 pub returns-then-machine-tokens-clause-no_file : goal.returns-then-machine-tokens-clause-no_file
@@ -50,8 +50,8 @@ returns-in-None-clause-steps g c =
       within = c.loop.invariant.within;
       stands =
           subst (λ (row : Row g.row.G-Class.Denot g.row.G-Line.Denot g.row.G-Action.Denot).
-              Stands g.G.Grammar.rules g.G.Grammar.table c.args.tokens.now c.loop.machine.state row (drop c.loop.machine.at c.args.tokens.now) c.loop.machine.steps.items)
-            c.in-None.ensures.0 c.loop.invariant.stands;
+          Stands g.G.Grammar.rules g.G.Grammar.table c.args.tokens.now c.loop.machine.state row (drop c.loop.machine.at c.args.tokens.now) c.loop.machine.steps.items)
+          c.in-None.ensures.0 c.loop.invariant.stands;
     })
 
 pub returns-in-None-clause-taken : goal.returns-in-None-clause-taken

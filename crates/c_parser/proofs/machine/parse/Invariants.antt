@@ -1,4 +1,3 @@
-use Rattle.std.proofs.Common.{◌≡◌}
 use Rattle.c_parser.specs.Stands.{StandsAt}
 use Rattle.c_parser.proofs.machine.parse.Given as goal
 

@@ -1,4 +1,4 @@
-use Rattle.std.proofs.Common.{◌≤◌, ◌<◌, length, arith}
+use Rattle.std.proofs.Common.{arith}
 use Rattle.c_parser.proofs.MoveLemmas.{token_moves, token_unexpected, token_too_deep, token_end}
 use Rattle.c_parser.proofs.machine.take_token.Goals as goal
 
@@ -24,6 +24,6 @@ returns g c = record {
   stands =
       rw c.in_ok-push.ensures.items
       (token_moves g.G.Grammar.rules g.G.Grammar.table g.met.G.Grammar.right c.args.tokens.now c.args.machine
-        c.index-tokens-at.result (omega (arith, c.if-at-tokens.false)) c.index-tokens-at.is c.class_of.result c.class_of.ensures
-        c.args.class c.args.effect c.requires c.is_same.result c.is_same.ensures c.if-not-is_same.false c.in_ok-state.field-0 c.in-Some.state c.in_ok-state.ensures c.in-Some.is);
+      c.index-tokens-at.result (omega (arith, c.if-at-tokens.false)) c.index-tokens-at.is c.class_of.result c.class_of.ensures
+      c.args.class c.args.effect c.requires c.is_same.result c.is_same.ensures c.if-not-is_same.false c.in_ok-state.field-0 c.in-Some.state c.in_ok-state.ensures c.in-Some.is);
 }

@@ -1,6 +1,5 @@
 use Rattle.std.proofs.Common.{drop}
 use Rattle.c_parser.proofs.Steps.{stands_turn}
-use Rattle.c_parser.proofs.MoveLemmas.{token_moves}
 use Rattle.c_parser.proofs.machine.take_turn.Goals as goal
 
 pub returns : goal.returns
