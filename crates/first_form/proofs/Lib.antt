@@ -4,3 +4,4 @@ mod TokenTexts
 mod Keys
 mod Facts
 mod Closed
+mod Rest

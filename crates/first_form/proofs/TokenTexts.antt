@@ -1,22 +1,18 @@
 -- No token has a line end.
 use Rattle.std.proofs.Common.{◌≡◌, ◌≢◌, ℕ, zero, suc, ◌+◌, ◌-◌, ◌≤◌, Bool, true, false, ◌&&◌, if◌then◌else◌, List, [], ◌∷◌, ◌++◌, length, take, drop, Option, Some, None, refl, sym, ◌∙◌, ap, subst, arith, append_assoc}
-use Rattle.std.specs.Prelude.{◌==◌, nat_le, not, codes}
+use Rattle.std.specs.Prelude.{◌==◌, nat_le, not, codes, All}
 use Rattle.std.specs.List.{list_all}
 use Rattle.std.specs.Option.{option_map}
 use Rattle.std.specs.Str.{bytes_eq}
 use Rattle.std.proofs.lemmas.Bool.{eqb-true}
-use Rattle.std.proofs.lemmas.List.{length-append, append-nil}
 use Rattle.std.proofs.lemmas.Slice.Eq.{bytes_eq-Decides}
-use Rattle.std.proofs.Math.Seq.{take-append_seam, drop-append_seam}
 use Rattle.c_lexer.specs.declared.tokens.Punctuator.{Punctuator}
 use Rattle.c_lexer.specs.declared.tokens.Token.{Token}
 use Rattle.c_lexer.specs.declared.tokens.TokenClass.{TokenClass}
 use Rattle.c_lexer.specs.declared.tokens.TokenClass.TheVariants as T
 use Rattle.c_lexer.specs.Bytes.{is_letter, is_digit, is_name_byte}
-use Rattle.c_lexer.specs.Classes.{is_name, is_decimal, is_constant, decimal_value, name_class, token_class}
-use Rattle.c_lexer.specs.Spells.{SpellsTo, end, blank, token}
+use Rattle.c_lexer.specs.Classes.{is_name, is_decimal, is_constant, decimal_value, name_class, token_class, text_of, StandsIn}
 use Rattle.c_lexer.specs.Tables.{written_so, punctuators, punctuator_of, keyword_of}
-use Rattle.first_form.specs.Source.{text_of}
 use Rattle.first_form.specs.Texts.{HasNoLineEnd}
 use Rattle.first_form.proofs.Named.{TextsNone}
 
@@ -99,28 +95,9 @@ token_none text class e = by_name (is_name text) refl
     by_name true is = name_none text is
     by_name false is = by_constant (is_constant text) is refl
 
--- the text of a token that stands behind these bytes
-text_none : (seen text rest file : List ℕ) (t : Token) → file ≡ seen ++ (text ++ rest) → t.start ≡ length seen → t.end ≡ length (seen ++ text) → HasNoLineEnd text → HasNoLineEnd (text_of file t)
-text_none seen text rest file t whole starts ends none = cases (nat_le t.start t.end && nat_le t.end (length file))
-  where
-    long : t.end - t.start ≡ length text
-    long = let both : length (seen ++ text) ≡ length seen + length text = length-append seen text in omega (arith, starts, ends, both)
-
-    is : take (t.end - t.start) (drop t.start file) ≡ text
-    is =
-        ap (λ (n : ℕ). take n (drop t.start file)) long
-        ∙ ap (λ (n : ℕ). take (length text) (drop n file)) starts
-        ∙ ap (λ (f : List ℕ). take (length text) (drop (length seen) f)) whole
-        ∙ ap (take (length text)) (drop-append_seam seen (text ++ rest))
-        ∙ take-append_seam text rest
-
-    cases : (b : Bool) → HasNoLineEnd (if b then take (t.end - t.start) (drop t.start file) else [])
-    cases true = subst HasNoLineEnd (sym is) none
-    cases false = tt
-
-pub spelled_none : (file seen bytes : List ℕ) (tokens : List Token) → file ≡ seen ++ bytes → SpellsTo [] seen bytes tokens → TextsNone file tokens
-spelled_none file seen bytes [] whole end = tt
-spelled_none file seen (b ∷ rest) tokens whole (blank is more) = spelled_none file (seen ++ b ∷ []) rest tokens (whole ∙ sym (append_assoc seen (b ∷ []) rest)) more
-spelled_none file seen bytes (t ∷ tokens) whole (token text rest class apart is more) =
-    let joined : file ≡ seen ++ (text ++ rest) = whole ∙ ap (λ (x : List ℕ). seen ++ x) apart in
-    (text_none seen text rest file t joined refl refl (token_none text class is.is_token), spelled_none file (seen ++ text) rest tokens (joined ∙ sym (append_assoc seen text rest)) more)
+-- the texts of tokens that stand in a file
+pub texts_none : (bytes : List ℕ) (tokens : List Token) → All (StandsIn bytes) tokens → TextsNone bytes tokens
+texts_none bytes [] all = tt
+texts_none bytes (t ∷ tokens) all =
+    let first : StandsIn bytes t = all 0 t (omega arith) in
+    (token_none (text_of bytes t) t.class first.class, texts_none bytes tokens (λ k d h. all (suc k) d (omega (arith, h))))

@@ -1,9 +1,10 @@
 -- Which bytes are a file of the first form, and which program it is.
-use Rattle.std.specs.Prelude.{◌≡◌, ℕ, ◌-◌, ◌≤◌, Bool, ◌&&◌, nat_le, if◌then◌else◌, List, [], ◌∷◌, map, length, take, drop, codes, Option, Some, None, option_map}
+use Rattle.std.specs.Prelude.{◌≡◌, ℕ, ◌≤◌, Bool, if◌then◌else◌, List, [], ◌∷◌, map, length, codes, Option, Some, None, option_map}
 use Rattle.std.specs.List.{list_any}
 use Rattle.std.specs.Option.{option_and_then}
 use Rattle.std.specs.Str.{bytes_eq}
 use Rattle.rvt_tree.specs.declared.programs.Program.{Program}
+use Rattle.c_lexer.specs.Classes.{text_of}
 use Rattle.c_lexer.specs.Spells.{Spells}
 use Rattle.c_lexer.specs.declared.tokens.Keyword.{Keyword}
 use Rattle.c_lexer.specs.declared.tokens.Keyword.TheVariants as K
@@ -20,15 +21,13 @@ use Rattle.c_parser.specs.State.{max_levels}
 use Rattle.first_form.specs.declared.grammar.Action.{Action}
 use Rattle.first_form.specs.declared.grammar.Class.{Class}
 use Rattle.first_form.specs.declared.grammar.Class.TheVariants as C
+use Rattle.first_form.specs.declared.refused.Refused.{Refused}
+use Rattle.first_form.specs.declared.refused.Refused.TheVariants.{Form, Memory}
 use Rattle.first_form.specs.Grammar.{rules}
 use Rattle.first_form.specs.Actions.{Reading, nothing_read, made}
 use Rattle.first_form.specs.Shown.{function_tree}
 
 -- ---- tokens
-
--- the bytes of a token
-abbrev pub text_of : List ℕ → Token → List ℕ
-text_of bytes t = if nat_le t.start t.end && nat_le t.end (length bytes) then take (t.end - t.start) (drop t.start bytes) else []
 
 -- the names that are built in, which no file of the first form has
 abbrev pub built_in : List (List ℕ)
@@ -117,3 +116,8 @@ pub record IsReading (bytes : List ℕ) (program : Program) : Type 0 where
 -- The bytes are no file of the first form.
 abbrev pub HasNoReading : List ℕ → Type 0
 HasNoReading bytes = (program : Program) → IsReading bytes program → ⊥
+
+-- what a refusal says
+abbrev pub IsRefusal : List ℕ → Refused → Type 0
+IsRefusal bytes Form = HasNoReading bytes
+IsRefusal bytes Memory = Unit {0}

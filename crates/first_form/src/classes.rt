@@ -1,10 +1,11 @@
 //! What the tokens of a file are to the grammar.
 
-ghost use Rattle.std.specs.Prelude.{◌≡◌};
+ghost use Rattle.std.specs.Prelude.{◌≡◌, All};
 ghost use Rattle.std.specs.List.{list_any};
 ghost use Rattle.std.specs.Str.{bytes_eq};
 ghost use Rattle.first_form.specs.Source as spec;
-ghost use Rattle.first_form.specs.Source.{text_of, terminals_of};
+ghost use Rattle.c_lexer.specs.Classes.{text_of, StandsIn};
+ghost use Rattle.first_form.specs.Source.{terminals_of};
 ghost use Rattle.first_form.specs.Shown.{Gives};
 
 use crate::grammar::Class;
@@ -15,13 +16,10 @@ use std::alloc::Global;
 
 /// The bytes of a token.
 pub fn text<'a>(bytes: &'a [u8], token: &Token) -> &'a [u8]
+    requires { StandsIn bytes.now token.now }
     ensures { result.now ≡ text_of bytes.now token.now }
 {
-    if token.start <= token.end && token.end <= bytes.len() {
-        &bytes[token.start..token.end]
-    } else {
-        b""
-    }
+    &bytes[token.start..token.end]
 }
 
 /// The names that are built in.
@@ -130,11 +128,12 @@ pub fn terminals(
     bytes: &[u8],
     tokens: &[Token],
 ) -> Result<Vec<Terminal<Class>>, Refused>
+    requires { All (StandsIn bytes.now) tokens.now }
     ensures { Gives result (terminals_of bytes.now tokens.now) }
 {
     let mut terminals = Vec::new(alloc);
     let mut left = tokens;
-    'tokens: while let [token, rest @ ..] = left {
+    'tokens: while let Some((token, rest)) = left.split_first() {
         match class_of(text(bytes, token), token.class) {
             Some(class) => terminals.push(Terminal { class, name: 0 })?,
             None => return Err(Refused::Form),

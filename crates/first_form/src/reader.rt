@@ -1,12 +1,12 @@
 //! The program of a file.
 
-ghost use Rattle.std.specs.Prelude.{◌≡◌, ◌≤◌, [], length, map, All, Err, IfOk};
+ghost use Rattle.std.specs.Prelude.{◌≡◌, ◌≤◌, [], length, map, All, IfOk, IfErr};
+ghost use Rattle.c_lexer.specs.Classes.{StandsIn};
 ghost use Rattle.first_form.specs.Texts.{HasNoLineEnd};
-ghost use Rattle.first_form.specs.declared.refused.Refused.TheVariants.{Form};
 ghost use Rattle.first_form.specs.Actions.{nothing_read};
 ghost use Rattle.first_form.specs.Shown.{reading, Follows};
 ghost use Rattle.first_form.specs.Source as spec;
-ghost use Rattle.first_form.specs.Source.{IsReading, HasNoReading, after_steps};
+ghost use Rattle.first_form.specs.Source.{IsReading, IsRefusal, after_steps};
 
 use crate::classes::{terminals, text};
 use crate::grammar::{Action, FirstForm};
@@ -24,7 +24,7 @@ const MAX_TOKENS: usize = 200_000;
 /// The program that a file of the first form is. It is refused where it is no such file.
 pub fn read(alloc: Global, bytes: &[u8]) -> Result<Program, Refused>
     ensures program { IfOk result (IsReading bytes.now) }
-    ensures refused { result ≡ Err Form → HasNoReading bytes.now }
+    ensures refused { IfErr result (IsRefusal bytes.now) }
     ensures few { IfOk result (λ program. length program.functions ≤ 1000) }
     ensures names { IfOk result (λ program. All (λ f. HasNoLineEnd f.name) program.functions) }
 {
@@ -56,6 +56,7 @@ fn translate<'a>(
     steps: &[Step<Action>],
     translation: &mut Translation<'a>,
 ) -> Result<(), Refused>
+    requires { All (StandsIn bytes.now) tokens.now }
     ensures { Follows result (reading translation.new) (after_steps bytes.now tokens.now [] 0 steps.now (reading translation.old)) }
 {
     let mut tokens = tokens;

@@ -5,7 +5,8 @@ use Rattle.std.specs.Fmt.{decimal}
 use Rattle.std.specs.Option.{is_none}
 use Rattle.std.proofs.lemmas.Bool.{eqb-true}
 use Rattle.std.proofs.lemmas.Fmt.{decimal_is_IsNumeral}
-use Rattle.std.specs.Str.Parse.{AllDigits, digit_value}
+use Rattle.std.specs.Char.{digit_value}
+use Rattle.std.specs.Str.Parse.{AllDigits}
 use Rattle.std.proofs.lemmas.List.Elements.{All-nil, All-cons, All-append}
 use Rattle.rvt_tree.specs.declared.pairings.Pairing.{Pairing}
 use Rattle.rvt_tree.specs.declared.programs.Function.{Function}
@@ -13,7 +14,7 @@ use Rattle.rvt_tree.specs.declared.programs.Program.{Program}
 use Rattle.rvt_run.specs.declared.lines.Verdict.{Verdict}
 use Rattle.rvt_run.specs.declared.lines.Verdict.TheVariants.{Twin, Interface, Bodies}
 use Rattle.first_form.specs.Texts.{HasNoLineEnd}
-use Rattle.rvt_run.specs.Answer.{IsLine, line}
+use Rattle.rvt_run.specs.Answer.{IsLine, line, not_of_form, no_command}
 use Rattle.rvt_run.specs.Names.{function_number, named}
 use Rattle.rvt_run.specs.Report.{PairVerdict, verdict_by, verdict_text, paired_before, pairs_of, pair_line, pair_lines, only_lines, counts_text, counts_of, full_among, is_full, report_lines}
 use Rattle.rvt_run.specs.Twins.{is_paired}
@@ -33,7 +34,7 @@ joined [] b none none' = none'
 joined (x ∷ a) b none none' = (none.0, joined a b none.1 none')
 
 -- the test by computing
-abbrev one_line_text : List ℕ → Bool
+abbrev pub one_line_text : List ℕ → Bool
 one_line_text [] = true
 one_line_text (b ∷ bytes) = if b == 10 then false else one_line_text bytes
 
@@ -70,7 +71,7 @@ plain_none word plain = printing_none word plain.printing
 pub line_of : (first second : List ℕ) → HasNoLineEnd first → HasNoLineEnd second → IsLine (line first second)
 line_of first second none none' = record {
   body = first ++ second;
-  ended = sym (append_assoc first second (10 ∷ []));
+  ended = refl;
   one = joined first second none none';
 }
 
@@ -150,3 +151,15 @@ report_shaped old new twins olds news few =
     let within : length pairs ≤ length old.functions = pairs_few new.functions twins.functions 0 old.functions in
     let last : IsLine counts = counts_shaped (full_among pairs) (length pairs) (full_few pairs) (omega (arith, within, few)) in
     All-append IsLine (pair_lines pairs ++ only_old ++ only_new) (counts ∷ []) (All-append IsLine (pair_lines pairs ++ only_old) only_new (All-append IsLine (pair_lines pairs) only_old first second) third) (only_this counts last)
+
+-- ---- other answers
+
+-- a name and a text behind it
+pub line_shaped : (name text : List ℕ) → HasNoLineEnd name → one_line_text text ≡ true → All IsLine (line name text ∷ [])
+line_shaped name text none is = only_this (line name text) (line_of name text none (literal text is))
+
+pub refusal_shaped : (name : List ℕ) → HasNoLineEnd name → All IsLine (not_of_form name)
+refusal_shaped name none = line_shaped name (codes ": not of the first form") none refl
+
+pub no_command_shaped : All IsLine no_command
+no_command_shaped = line_shaped (codes "rvt: the words are no command") [] (literal (codes "rvt: the words are no command") refl) refl

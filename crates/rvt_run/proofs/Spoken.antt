@@ -1,5 +1,5 @@
 -- What a run writes says nothing false.
-use Rattle.std.proofs.Common.{◌≡◌, ℕ, zero, suc, ◌<◌, ◌≤◌, List, [], ◌∷◌, ◌++◌, take, length, Option, Some, None, refl, sym, ◌∙◌, ap, subst, inl, inr, arith, append_assoc}
+use Rattle.std.proofs.Common.{◌≡◌, ℕ, zero, suc, ◌<◌, ◌≤◌, List, [], ◌∷◌, ◌++◌, take, length, get_or, Option, Some, None, refl, sym, ◌∙◌, ap, subst, inl, inr, arith, append_assoc}
 use Rattle.std.specs.Prelude.{codes, All}
 use Rattle.std.specs.List.{concat, Contains}
 use Rattle.std.proofs.lemmas.List.{append_cancel_left, append-nil}
@@ -16,22 +16,29 @@ use Rattle.rvt_run.specs.Words.{IsCompare}
 use Rattle.rvt_run.proofs.Split.{lines_of_concat, line_of_part}
 use Rattle.rvt_run.proofs.Truth.{same_end}
 
+apart : (n front : List ℕ) (x : ℕ) → (n ++ (front ++ x ∷ [])) ++ 10 ∷ [] ≡ (n ++ front) ++ x ∷ 10 ∷ []
+apart n front x = ap (λ (l : List ℕ). l ++ 10 ∷ []) (sym (append_assoc n front (x ∷ []))) ∙ append_assoc (n ++ front) (x ∷ []) (10 ∷ [])
+
 -- a line that ends otherwise isn't that of a full pair
-other_end : (front name : List ℕ) (byte : ℕ) → front ++ byte ∷ 10 ∷ [] ≡ full_line name → byte ≡ 110
-other_end front name byte e = same_end front (name ++ codes ": fully equivalent, twi") byte 110 (e ∙ sym (append_assoc name (codes ": fully equivalent, twi") (110 ∷ 10 ∷ [])) )
+other_end : (first front name : List ℕ) (byte : ℕ) → line first (front ++ byte ∷ []) ≡ full_line name → byte ≡ 110
+other_end first front name byte e =
+    same_end (first ++ front) (name ++ codes ": fully equivalent, twi") byte 110 (sym (apart first front byte) ∙ e ∙ apart name (codes ": fully equivalent, twi") 110)
 
 -- one line whose text ends otherwise
-lone : (first front : List ℕ) (byte : ℕ) (name : List ℕ) → (byte ≡ 110 → ⊥) → Contains ((first ++ front ++ byte ∷ 10 ∷ []) ∷ []) (full_line name) → ⊥
-lone first front byte name apart among = cases among.0 among.1 among.2
+lone : (first front : List ℕ) (byte : ℕ) (name : List ℕ) → (byte ≡ 110 → ⊥) → Contains (line first (front ++ byte ∷ []) ∷ []) (full_line name) → ⊥
+lone first front byte name differs among = cases among.0 among.1 among.2
   where
-    cases : (k : ℕ) → k < 1 → _ → ⊥
-    cases zero low is = apart (other_end (first ++ front) name byte (append_assoc first front (byte ∷ 10 ∷ []) ∙ is))
+    cases : (k : ℕ) → k < 1 → get_or (line first (front ++ byte ∷ []) ∷ []) k (full_line name) ≡ full_line name → ⊥
+    cases zero low is = differs (other_end first front name byte is)
     cases (suc k) low is = omega (arith, low)
 
 -- where a line of the answer says that a pair is fully equivalent, it is
 pub answer_true : (words : List (List ℕ)) (files : Option Files) (calls : List Call) (status : ℕ) (lines : List (List ℕ)) (name : List ℕ) → Answers words files calls status lines → IsName name →
     Contains lines (full_line name) → IsFullInFiles words files name
-answer_true words files calls status lines name (refused absent) is_name among = absurd (lone [] (codes "rvt: the words are no comman") 100 name (λ e. omega (arith, e)) among)
+answer_true words files calls status lines name (refused absent) is_name among = absurd (no_pair among)
+  where
+    no_pair : Contains no_command (full_line name) → ⊥
+    no_pair among = lone [] (codes "rvt: the words are no comman") 100 name (λ e. omega (arith, e)) among
 answer_true words files calls status lines name (old_fault old new is) is_name among = absurd (lone old (codes ": cannot rea") 100 name (λ e. omega (arith, e)) among)
 answer_true words files calls status lines name (old_long old new is long) is_name among = absurd (lone old (codes ": too lon") 103 name (λ e. omega (arith, e)) among)
 answer_true words files calls status lines name (new_fault old new bytes is whole) is_name among = absurd (lone new (codes ": cannot rea") 100 name (λ e. omega (arith, e)) among)

@@ -1,16 +1,8 @@
-use Rattle.std.proofs.Common.{◌≡◌, List, ◌∷◌, length, ◌∙◌, sym}
-use Rattle.first_form.specs.declared.translation.OpenCall.{OpenCall}
-use Rattle.first_form.specs.Actions.{count_of}
-use Rattle.first_form.specs.Shown.{reading}
+use Rattle.std.proofs.Common.{◌≡◌, ◌∙◌, sym}
 use Rattle.first_form.proofs.Closed.{closed}
 use Rattle.first_form.proofs.translation.Translation.close_call.Goals as goal
 
 pub returns-in_ok-push-in-Some : goal.returns-in_ok-push-in-Some
 returns-in_ok-push-in-Some c =
-    let t1 = c.in-Some.ensures in
-    let t2 = c.len.ensures in
-    let t3 = c.count.ensures in
-    let t4 = c.if-len-count.false in
-    let t5 = c.in_ok-arguments-in-Some.ensures in
-    let t6 = c.in_ok-whole-in-Some.ensures in
-    ?
+    closed c.args.self.now c.in-Some.call c.pop.new.self c.push.new.self c.in_ok-whole-in-Some.whole c.in_ok-arguments-in-Some.arguments c.in-Some.ensures
+    (sym c.in-Some.call.arguments.ok.0 ∙ sym c.len.ensures ∙ c.if-len-count.false ∙ c.count.ensures) c.in_ok-push-in-Some.ensures c.in_ok-whole-in-Some.ensures c.in_ok-arguments-in-Some.ensures
