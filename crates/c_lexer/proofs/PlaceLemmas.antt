@@ -7,8 +7,7 @@ use Rattle.std.proofs.lemmas.Bool.Decides.{nat_tests}
 use Rattle.std.proofs.lemmas.List.{append-nil, reverse-append, length-reverse}
 use Rattle.std.proofs.lemmas.List.Sums.{sum_by_push, count_by-le-length, prefix_len-le-length}
 use Rattle.c_lexer.specs.declared.tokens.Place.{Place}
-use Rattle.c_lexer.specs.Bytes.{is_line_end, is_name_byte, place_after}
-use Rattle.c_lexer.specs.Reading.{after_space}
+use Rattle.c_lexer.specs.Bytes.{after_space, is_line_end, is_name_byte, place_after}
 
 lines_more : (seen : List ℕ) (byte : ℕ) (b : Bool) → is_line_end byte ≡ b → count_by is_line_end (seen ++ byte ∷ []) ≡ count_by is_line_end seen + cond b 1 0
 lines_more seen byte b e = sum_by_push (λ x. cond (is_line_end x) 1 0) seen byte ∙ ap (λ t. count_by is_line_end seen + cond t 1 0) e

@@ -10,10 +10,9 @@ use Rattle.c_lexer.specs.declared.front.Front.{Front}
 use Rattle.c_lexer.specs.declared.tokens.Place.{Place}
 use Rattle.c_lexer.specs.declared.tokens.Token.{Token}
 use Rattle.c_lexer.specs.declared.tokens.TokenClass.{TokenClass}
-use Rattle.c_lexer.specs.Bytes.{is_space, place_after}
+use Rattle.c_lexer.specs.Bytes.{after_space, is_space, place_after}
 use Rattle.c_lexer.specs.Classes.{token_class, IsTokenBefore, BeginsNoToken, StandsIn}
 use Rattle.c_lexer.specs.Fronts.{IsFront}
-use Rattle.c_lexer.specs.Reading.{after_space}
 use Rattle.c_lexer.specs.Spells.{SpellsTo, end, blank, token, Spells, cause_at, IsRefused}
 use Rattle.c_lexer.proofs.ClassLemmas.{empty_class, space_class, token_in_line}
 use Rattle.c_lexer.proofs.FrontLemmas.{not_none, same_first, only_token}

@@ -1,5 +1,5 @@
 -- Kinds of bytes, and places.
-use Rattle.std.specs.Prelude.{ℕ, ◌+◌, Bool, not, ◌&&◌, ◌||◌, ◌==◌, nat_le, List, count_by, reverse}
+use Rattle.std.specs.Prelude.{ℕ, ◌+◌, Bool, not, ◌&&◌, ◌||◌, ◌==◌, nat_le, if◌then◌else◌, List, count_by, reverse}
 use Rattle.std.specs.List.{prefix_len}
 use Rattle.c_lexer.specs.declared.tokens.Place.{Place}
 
@@ -28,3 +28,8 @@ place_after seen = record {
   line = count_by is_line_end seen + 1;
   column = prefix_len (λ byte. not (is_line_end byte)) (reverse seen) + 1;
 }
+
+-- the place one byte further on
+abbrev pub after_space : Place → ℕ → Place
+after_space place byte =
+    if is_line_end byte then record { line = place.line + 1; column = 1 } else record { line = place.line; column = place.column + 1 }

@@ -3,4 +3,3 @@ pub mod Tables
 pub mod Classes
 pub mod Spells
 pub mod Fronts
-pub mod Reading

@@ -2,7 +2,6 @@
 
 ghost use Rattle.std.specs.Prelude.{◌≡◌, ◌<◌, ◌^◌, ◌-◌};
 ghost use Rattle.c_lexer.specs.Bytes as bytes;
-ghost use Rattle.c_lexer.specs.Reading.{after_space};
 
 use crate::tokens::Place;
 
@@ -34,7 +33,7 @@ pub fn is_name_byte(byte: u8) -> bool
 pub fn after_space(place: Place, byte: u8) -> Place
     requires line { place.line < 2 ^ 64 - 1 }
     requires column { place.column < 2 ^ 64 - 1 }
-    ensures { result ≡ after_space place byte }
+    ensures { result ≡ bytes.after_space place byte }
 {
     if byte == b'\n' {
         return Place {

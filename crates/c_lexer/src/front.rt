@@ -76,6 +76,7 @@ fn keyword(text: &[u8]) -> Option<Keyword>
     keyword_in(&KEYWORDS, text)
 }
 
+/// The keyword that is written so in the table.
 fn keyword_in(mut table: &[(&[u8], Keyword)], text: &[u8]) -> Option<Keyword>
     ensures { result ≡ written_so (map (λ entry. (entry.0.now, entry.1)) table.entry.now) text.now }
 {
@@ -129,6 +130,7 @@ fn punctuator(text: &[u8]) -> Option<Front>
     punctuator_in(&PUNCTUATORS, text)
 }
 
+/// The first punctuator of the table with which the text begins.
 fn punctuator_in(mut table: &[(&[u8], Punctuator)], text: &[u8]) -> Option<Front>
     ensures { result ≡ first_front (map (λ entry. (entry.0.now, entry.1)) table.entry.now) text.now }
 {

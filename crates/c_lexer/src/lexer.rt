@@ -11,7 +11,8 @@ use crate::front::first_token;
 use crate::tokens::{Place, Token};
 use std::alloc::Global;
 
-/// The tokens of a file.
+/// The tokens of a file. Comments, directives, character constants and string literals aren't read yet: the byte
+/// that begins one is refused, but for `/`, which is a punctuator wherever it stands.
 pub fn lex(alloc: Global, bytes: &[u8]) -> Result<Vec<Token>, Fault>
     ensures spelled { IfOk result (λ tokens. Spells bytes.now tokens.items) }
     ensures only { IfOk result (λ tokens. (others : List Token) → Spells bytes.now others → others ≡ tokens.items) }
