@@ -9,7 +9,7 @@ ghost use Rattle.touch_sets.specs.Callers.{AreCallers};
 ghost use Rattle.touch_sets.specs.Sets.{MayTrap, AlwaysEnds};
 ghost use Rattle.touch_sets.specs.Touching.{side_of, flag, flag_rows, trap_number, trap_with};
 
-use crate::objects::version;
+use crate::versions::version;
 use core_ir::{Core, JointCore};
 use graph_marks::{Graph, Memory, on_cycles, spread};
 use rvt_num::Trap;

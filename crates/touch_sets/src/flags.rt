@@ -6,7 +6,8 @@ ghost use Rattle.touch_sets.specs.Touching.{AreFlags, side_of, told, flag, flag_
 use crate::bodies::all_named;
 use crate::callers::caller_graph;
 use crate::endings::{endless_units, number_of, trap_rows};
-use crate::objects::{is_flagged, touched_rows, version};
+use crate::objects::{is_flagged, touched_rows};
+use crate::versions::version;
 use core_ir::JointCore;
 use graph_marks::Memory;
 use rvt_num::Trap;

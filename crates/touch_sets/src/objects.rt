@@ -11,19 +11,10 @@ ghost use Rattle.touch_sets.specs.Sets.{Touches};
 ghost use Rattle.touch_sets.specs.Touching.{side_of, flag, flag_rows};
 
 use crate::bodies::Named;
+use crate::versions::version;
 use core_ir::{Core, CoreObject, JointCore, Unit};
 use graph_marks::{Graph, Memory, spread};
 use std::alloc::Global;
-
-/// The old version, or the new one.
-pub fn version(core: &JointCore, old_side: bool) -> &Core
-    ensures { result.now ≡ core_of core.now (side_of old_side) }
-{
-    if old_side {
-        return &core.old;
-    }
-    &core.new_side
-}
 
 /// By object, the units of one version that touch it.
 pub fn touched_rows(
