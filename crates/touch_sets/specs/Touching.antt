@@ -6,7 +6,7 @@ use Rattle.core_ir.specs.Tables.{Effects}
 use Rattle.core_ir.specs.declared.cores.JointCore.{JointCore}
 use Rattle.rvt_num.specs.declared.values.Trap.{Trap}
 use Rattle.rvt_num.specs.declared.values.Trap.TheVariants as trap
-use Rattle.touch_sets.specs.Sets.{Touches, MayTrap, AlwaysEnds}
+use Rattle.touch_sets.specs.Sets.{Touches, MayTrap, AlwaysEnds, AreEffects}
 
 abbrev pub side_of : Bool → Side
 side_of true = Old
@@ -127,3 +127,8 @@ effects_of touch =
       may_trap = λ x t. at_node touch.pairs x (λ side u. unit_traps (flags_at touch side) u t);
       always_ends = λ side u. unit_ends (flags_at touch side) u;
     }
+
+-- it is of this joint core: it has its pairs, and tells its least sets
+pub record IsTouchOf (joint : JointCore) (touch : Touching) : Type 0 where
+  pub pairs : touch.pairs ≡ joint.pairs
+  pub effects : AreEffects joint (effects_of touch)

@@ -1,6 +1,6 @@
 //! Which units touch an object.
 
-ghost use Rattle.std.specs.Prelude.{◌≡◌, ℕ, ◌<◌, ◌≤◌, ◌^◌, ◌↔◌, ◌⊎◌, ◌||◌, true, false, map, length, slice_get, slice_index_or, option_copied, IfOk, OnOk};
+ghost use Rattle.std.specs.Prelude.{◌≡◌, ℕ, ◌<◌, ◌≤◌, ◌^◌, ◌↔◌, ◌⊎◌, ◌||◌, true, false, map, length, slice_get, slice_index_or, IfOk, OnOk};
 ghost use Rattle.call_graph.specs.Graphs.{At, rows};
 ghost use Rattle.core_ir.specs.Calls.{Among};
 ghost use Rattle.core_ir.specs.Cells.{has};
@@ -12,7 +12,7 @@ ghost use Rattle.touch_sets.specs.Touching.{side_of, flag, flag_rows};
 
 use crate::bodies::Named;
 use crate::versions::version;
-use core_ir::{Core, CoreObject, JointCore, Unit};
+use core_ir::{Core, CoreObject, JointCore};
 use graph_marks::{Graph, Memory, spread};
 use std::alloc::Global;
 

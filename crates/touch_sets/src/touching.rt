@@ -1,7 +1,6 @@
 ghost use Rattle.std.specs.Prelude.{◌≡◌, IfOk};
 ghost use Rattle.core_ir.specs.Joint.{Pair, pair_from};
-ghost use Rattle.touch_sets.specs.Sets.{AreEffects};
-ghost use Rattle.touch_sets.specs.Touching.{side_of, node_in, unit_at, effects_of};
+ghost use Rattle.touch_sets.specs.Touching.{side_of, node_in, unit_at, effects_of, IsTouchOf};
 
 use crate::flags::Flags;
 use crate::pairings::{member_of, pair_at, pair_table};
@@ -34,10 +33,9 @@ impl Model for Touch {
     ghost invariant = { λ t. ((u : ℕ) → slice_index_or t.old_pairs.items u None ≡ pair_from Old u 0 t.pairs.items) × ((u : ℕ) → slice_index_or t.new_pairs.items u None ≡ pair_from New u 0 t.pairs.items) };
 }
 
-/// Computes the least sets, bottom up along the calls. More units, or more pairs, than a number of 32 bits tells are too many.
+/// Computes the least sets, by marks that go from units to their callers. More units, or more pairs, than a number of 32 bits tells are too many.
 pub fn touched_by(alloc: Global, core: &JointCore) -> Result<Touch, Memory>
-    ensures pairs { IfOk result (λ touch. touch.pairs ≡ core.now.pairs) }
-    ensures effects { IfOk result (λ touch. AreEffects core.now (effects_of touch)) }
+    ensures { IfOk result (λ touch. IsTouchOf core.now touch) }
 {
     if core.pairs.len() > 4_294_967_296 {
         return Err(Memory);
