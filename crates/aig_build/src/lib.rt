@@ -3,6 +3,7 @@
 
 mod circuits;
 mod lits;
+mod packed;
 #[cfg(test)]
 mod tests;
 
