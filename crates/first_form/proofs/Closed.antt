@@ -1,15 +1,14 @@
 -- A call whose arguments have been read.
-use Rattle.std.proofs.Common.{◌≡◌, ℕ, Bool, true, if◌then◌else◌, List, [], ◌∷◌, length, map, Option, Some, None, refl, sym, ◌∙◌, ap, arith}
-use Rattle.std.specs.Prelude.{nat_eq}
+use Rattle.std.proofs.Common.{◌≡◌, Bool, if◌then◌else◌, List, ◌∷◌, length, map, Some, None, sym, ◌∙◌, ap}
 use Rattle.std.proofs.lemmas.Bool.{eq-eqb}
 use Rattle.std.proofs.lemmas.List.{length-map}
 use Rattle.rvt_tree.specs.declared.expressions.Expr.{Expr}
 use Rattle.rvt_tree.specs.declared.expressions.Exprs.{Exprs}
-use Rattle.rvt_tree.specs.Syntax.{Expression, Arguments, call, no_arguments}
+use Rattle.rvt_tree.specs.Syntax.{Expression, call, no_arguments}
 use Rattle.rvt_tree.specs.Views.{expr_view, exprs_view, exprs_before}
 use Rattle.first_form.specs.declared.translation.OpenCall.{OpenCall}
 use Rattle.first_form.specs.declared.translation.Translation.{Translation}
-use Rattle.first_form.specs.Actions.{Called, Reading, count_of, arguments_of, call_by, close_call}
+use Rattle.first_form.specs.Actions.{Reading, count_of, arguments_of, call_by, close_call}
 use Rattle.first_form.specs.Shown.{called, reading}
 use Rattle.first_form.proofs.Lists.{arguments_shown}
 

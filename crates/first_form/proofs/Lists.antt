@@ -2,7 +2,7 @@
 use Rattle.std.proofs.Common.{◌≡◌, List, [], ◌∷◌, map, refl, ap}
 use Rattle.rvt_tree.specs.declared.expressions.Expr.{Expr}
 use Rattle.rvt_tree.specs.declared.statements.Stmt.{Stmt}
-use Rattle.rvt_tree.specs.Syntax.{Arguments, Statements, no_arguments, argument, no_statements, statement}
+use Rattle.rvt_tree.specs.Syntax.{no_arguments, argument, no_statements, statement}
 use Rattle.rvt_tree.specs.Views.{expr_view, stmt_view, exprs_before, stmts_before}
 use Rattle.first_form.specs.Actions.{arguments_of, statements_of}
 

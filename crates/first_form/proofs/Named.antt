@@ -1,5 +1,5 @@
 -- The names of the functions that are read are texts of tokens.
-use Rattle.std.proofs.Common.{◌≡◌, ℕ, zero, suc, ◌+◌, ◌<◌, ◌≤◌, Bool, true, false, if◌then◌else◌, List, [], ◌∷◌, ◌++◌, length, map, Option, Some, None, refl, sym, ◌∙◌, ap, subst, arith}
+use Rattle.std.proofs.Common.{◌≡◌, ℕ, ◌+◌, ◌<◌, ◌≤◌, Bool, true, false, if◌then◌else◌, List, [], ◌∷◌, ◌++◌, length, Option, Some, None, refl, sym, ◌∙◌, ap, subst, arith}
 use Rattle.std.specs.Prelude.{All, nat_eq, nat_le, ◌||◌, pos}
 use Rattle.std.specs.Option.{option_map, option_and_then}
 use Rattle.std.proofs.lemmas.List.{length-append}
@@ -9,13 +9,13 @@ use Rattle.rvt_num.specs.declared.operations.BinOp.{BinOp}
 use Rattle.rvt_num.specs.declared.operations.BinOp.TheVariants as Op
 use Rattle.rvt_num.specs.Wrapping.{wrapped}
 use Rattle.rvt_tree.specs.declared.expressions.Variable.TheVariants as V
-use Rattle.rvt_tree.specs.Syntax.{Expression, constant, value_at, identifier, call, compound, if_statement, return_value, Statement}
+use Rattle.rvt_tree.specs.Syntax.{Expression, constant, value_at, identifier, call, Statement}
 use Rattle.c_lexer.specs.declared.tokens.Token.{Token}
 use Rattle.c_parser.specs.declared.symbol.Step.{Step}
 use Rattle.c_parser.specs.declared.symbol.Step.TheVariants as S
 use Rattle.first_form.specs.declared.grammar.Action.{Action}
 use Rattle.first_form.specs.declared.grammar.Action.TheVariants as A
-use Rattle.first_form.specs.Actions.{FunctionTree, Called, Reading, number_among, is_among, max_functions, max_params, begin_function, parameter, int_function, define_by, with_expression, operation_of, argument_by, count_of, arguments_of, call_by, statement_by, statements_of, block_by, choice_by, return_by, made}
+use Rattle.first_form.specs.Actions.{FunctionTree, Called, Reading, number_among, is_among, max_functions, max_params, int_function, define_by, with_expression, operation_of, argument_by, count_of, arguments_of, call_by, statement_by, block_by, choice_by, return_by, made}
 use Rattle.c_lexer.specs.Classes.{text_of}
 use Rattle.first_form.specs.Source.{value_of, after_steps}
 use Rattle.first_form.specs.Texts.{HasNoLineEnd}

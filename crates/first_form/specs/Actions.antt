@@ -1,6 +1,6 @@
 -- What each part of a file of the first form makes of what was read before it: the rules of the typed tree,
 -- each beside an action of the grammar. `None` where the file is not of the form.
-use Rattle.std.specs.Prelude.{ℕ, pos, Bool, true, false, ◌||◌, nat_eq, nat_le, if◌then◌else◌, List, [], ◌∷◌, ◌++◌, length, map, position, slice_get, Option, Some, None, option_map}
+use Rattle.std.specs.Prelude.{ℕ, pos, Bool, false, ◌||◌, nat_eq, nat_le, if◌then◌else◌, List, [], ◌∷◌, ◌++◌, length, map, position, slice_get, Option, Some, None, option_map}
 use Rattle.std.specs.List.{list_any}
 use Rattle.std.specs.Str.{bytes_eq}
 use Rattle.rvt_num.specs.declared.kinds.Kind.TheVariants.{I32}

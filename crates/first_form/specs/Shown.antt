@@ -1,9 +1,7 @@
 -- What a translation has read, whatever its trees' places in memory are.
-use Rattle.std.specs.Prelude.{◌≡◌, ℕ, List, map, Option, Some, None, option_map, Result, Ok, Err, Vec}
+use Rattle.std.specs.Prelude.{◌≡◌, List, map, Option, Some, None, option_map, Result, Ok, Err, Vec}
 use Rattle.std.specs.Global.{Global}
-use Rattle.std.specs.Borrow.{Bor}
 use Rattle.rvt_tree.specs.declared.programs.Function.{Function}
-use Rattle.rvt_tree.specs.declared.programs.Program.{Program}
 use Rattle.rvt_tree.specs.declared.statements.Stmt.{Stmt}
 use Rattle.rvt_tree.specs.Views.{expr_view, stmt_view}
 use Rattle.rvt_tree.specs.Syntax.{Statement}

@@ -1,5 +1,5 @@
 -- What a run writes says nothing false.
-use Rattle.std.proofs.Common.{◌≡◌, ℕ, zero, suc, ◌<◌, ◌≤◌, List, [], ◌∷◌, ◌++◌, take, length, get_or, Option, Some, None, refl, sym, ◌∙◌, ap, subst, inl, inr, arith, append_assoc}
+use Rattle.std.proofs.Common.{◌≡◌, ℕ, zero, suc, ◌<◌, ◌≤◌, List, [], ◌∷◌, ◌++◌, take, length, get_or, Option, Some, refl, sym, ◌∙◌, ap, subst, inl, inr, arith, append_assoc}
 use Rattle.std.specs.Prelude.{codes, All}
 use Rattle.std.specs.List.{concat, Contains}
 use Rattle.std.proofs.lemmas.List.{append_cancel_left, append-nil}
@@ -9,10 +9,9 @@ use Rattle.std.proofs.Math.Nat.{eq-or-lt_of_le}
 use Rattle.rvt_edge.specs.declared.desk.Call.{Call}
 use Rattle.rvt_edge.specs.Desk.{Files}
 use Rattle.rvt_edge.specs.Sink.{Grows, GrowsByPart}
-use Rattle.rvt_run.specs.Answer.{Answers, refused, old_fault, old_long, new_fault, new_long, compared, Compares, old_refused, new_refused, reported, Writes, IsWhole, IsLine, line, no_command, cannot_read, too_long, not_of_form}
+use Rattle.rvt_run.specs.Answer.{Answers, refused, old_fault, old_long, new_fault, new_long, compared, Compares, old_refused, new_refused, reported, Writes, IsLine, line, no_command}
 use Rattle.rvt_run.specs.Headline.{lines_of, SaysFullTruly, IsFullInFiles}
-use Rattle.rvt_run.specs.Report.{IsName, IsTrueLine, full_line, IsFullPair}
-use Rattle.rvt_run.specs.Words.{IsCompare}
+use Rattle.rvt_run.specs.Report.{IsName, IsTrueLine, full_line}
 use Rattle.rvt_run.proofs.Split.{lines_of_concat, line_of_part}
 use Rattle.rvt_run.proofs.Truth.{same_end}
 

@@ -1,4 +1,4 @@
-use Rattle.std.proofs.Common.{◌≡◌, ◌∙◌, List, ℕ, ◌++◌, Option, Some, sym, ap}
+use Rattle.std.proofs.Common.{◌≡◌, ◌∙◌, List, ℕ, ◌++◌, Some, sym, ap}
 use Rattle.std.specs.Option.{option_map}
 use Rattle.c_lexer.specs.Classes.{StandsIn, text_of}
 use Rattle.c_parser.specs.declared.symbol.Token.{Token as Terminal}

@@ -1,4 +1,4 @@
-use Rattle.std.proofs.Common.{◌≡◌, ◌≤◌, ◌∙◌, List, ℕ, [], Option, Some, length, map, sym, ap, subst, arith}
+use Rattle.std.proofs.Common.{◌≡◌, ◌∙◌, List, [], Some, length, map, sym, ap, subst, arith}
 use Rattle.rvt_tree.specs.declared.programs.Function.{Function}
 use Rattle.c_lexer.specs.declared.tokens.Token.{Token}
 use Rattle.c_parser.specs.declared.symbol.Step.{Step}

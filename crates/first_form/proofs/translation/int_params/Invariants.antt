@@ -1,4 +1,4 @@
-use Rattle.std.proofs.Common.{◌≡◌, map, take, ◌≤◌, length}
+use Rattle.std.proofs.Common.{◌≡◌, map, take}
 use Rattle.first_form.specs.Actions.{int_param}
 use Rattle.first_form.proofs.translation.int_params.Given as goal
 

@@ -1,4 +1,4 @@
-use Rattle.std.proofs.Common.{◌≡◌, List, ℕ, Bool, false, ◌∷◌, ◌++◌, [], sym, ◌∙◌, ap}
+use Rattle.std.proofs.Common.{◌≡◌, List, ℕ, false, ◌∷◌, ◌++◌, [], ◌∙◌, ap}
 use Rattle.first_form.specs.Actions.{is_among}
 use Rattle.first_form.proofs.Keys.{names_of, declared_last}
 use Rattle.first_form.proofs.declared.Declared.declare.Goals as goal

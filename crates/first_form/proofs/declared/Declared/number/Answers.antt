@@ -1,4 +1,4 @@
-use Rattle.std.proofs.Common.{◌≡◌, List, ℕ, sym, ◌∙◌, ap}
+use Rattle.std.proofs.Common.{List, ℕ, ◌∙◌, ap}
 use Rattle.first_form.specs.Actions.{number_among}
 use Rattle.first_form.proofs.Keys.{number_shown}
 use Rattle.first_form.proofs.declared.Declared.number.Goals as goal

@@ -1,4 +1,4 @@
-use Rattle.std.proofs.Common.{◌≡◌, ◌∙◌, sym}
+use Rattle.std.proofs.Common.{◌∙◌, sym}
 use Rattle.first_form.proofs.Closed.{closed}
 use Rattle.first_form.proofs.translation.Translation.close_call.Goals as goal
 
