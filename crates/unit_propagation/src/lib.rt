@@ -2,10 +2,14 @@
 #![tactic(auto)]
 
 mod propagation;
+mod settling;
 mod trail;
+mod visits;
+mod watches;
 
 pub use propagation::propagate;
 pub use trail::{Trail, Value};
+pub use watches::{Watched, Watches};
 
 #[cfg(test)]
 mod tests;

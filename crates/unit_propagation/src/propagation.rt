@@ -21,12 +21,12 @@ enum Status {
 /// The next literal of a clause that is not false: its place, and whether it is true or free. Where there is
 /// none, the value is false.
 #[derive(Clone, Copy, Debug, PartialEq, Eq)]
-struct Next {
-    place: usize,
-    value: Value,
+pub struct Next {
+    pub place: usize,
+    pub value: Value,
 }
 
-fn next_not_false(clause: &[i64], trail: &Trail, from: usize) -> Next
+pub fn next_not_false(clause: &[i64], trail: &Trail, from: usize) -> Next
     requires fits { All (λ l. variable_of l < length trail.now.places.items) clause.now }
     requires within { from ≤ length clause.now }
     ensures { IsNext trail.now.literals.items clause.now from result.place result.value }
