@@ -1,13 +1,13 @@
 -- Clauses stay covered, as the trail grows, lists change and literals are handled.
-use Rattle.std.proofs.Common.{◌≡◌, ◌≢◌, ◌⊎◌, inl, inr, ℕ, ℤ, ◌<◌, ◌≤◌, ◌+◌, List, [], ◌∷◌, ◌++◌, length, slice_index, slice_index_or, sym, ap, ◌∙◌, arith, subst, length-append, Option, Some, None}
+use Rattle.std.proofs.Common.{◌≡◌, inl, inr, ℕ, ℤ, ◌<◌, ◌≤◌, ◌+◌, List, [], ◌∷◌, ◌++◌, length, slice_index, slice_index_or, sym, ap, ◌∙◌, arith, subst, length-append, Option, Some, None}
 use Rattle.std.specs.Prelude.{Contains}
-use Rattle.std.proofs.lemmas.Bool.{cases_lt, cases_eq}
+use Rattle.std.proofs.lemmas.Bool.{cases_lt}
 use Rattle.std.proofs.lemmas.List.{get_or_default}
 use Rattle.unit_propagation.proofs.Consistent.{cases_int}
-use Rattle.clause_db.specs.Literal.{variable_of, opposite}
+use Rattle.clause_db.specs.Literal.{opposite}
 use Rattle.clause_db.proofs.Ordered.{contains_at, read_at_place, opposite-opposite}
 use Rattle.unit_propagation.specs.Places.{literal_at}
-use Rattle.unit_propagation.specs.Watching.{watching, Holds, HoldsBy, HoldsForGood, IsGuarded, IsWatching, IsCovered}
+use Rattle.unit_propagation.specs.Watching.{Holds, HoldsBy, IsGuarded, IsCovered}
 use Rattle.unit_propagation.specs.Quiet.{IsFalseClause}
 use Rattle.unit_propagation.specs.Visiting.{IsNotFalse, WatchesNot, OthersAreFalse}
 use Rattle.unit_propagation.specs.declared.watches.Watched.{Watched}

@@ -1,5 +1,5 @@
 -- Where all of a trail is handled, each covered clause is quiet.
-use Rattle.std.proofs.Common.{◌≡◌, ◌≢◌, ◌⊎◌, inl, inr, ℕ, ℤ, pos, ◌<◌, ◌≤◌, ◌+◌, ◌-◌, ◌-ℤ◌, List, [], length, slice_index, slice_index_or, sym, ap, ◌∙◌, arith, subst, Option, Some, None, w64}
+use Rattle.std.proofs.Common.{◌≡◌, ◌⊎◌, inl, inr, ℕ, ℤ, pos, ◌<◌, ◌≤◌, ◌-◌, ◌-ℤ◌, List, [], length, slice_index, slice_index_or, sym, ap, ◌∙◌, arith, subst, Option, Some, None, w64}
 use Rattle.std.specs.Prelude.{Contains}
 use Rattle.std.proofs.lemmas.Bool.{cases_lt}
 use Rattle.std.proofs.lemmas.Int.{to_z-of_z, ints}

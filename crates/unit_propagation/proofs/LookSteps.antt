@@ -1,12 +1,12 @@
 -- What is to be done about a clause, from what is to be done beside one of its watched literals.
-use Rattle.std.proofs.Common.{◌≡◌, ◌≢◌, inl, inr, ℕ, ℤ, ◌<◌, ◌+◌, List, [], length, slice_index_or, refl, sym, ap, ◌∙◌, arith, subst, Option, Some, None, w64}
+use Rattle.std.proofs.Common.{◌≡◌, inl, inr, ℕ, ℤ, ◌<◌, ◌+◌, List, [], length, slice_index_or, sym, ap, ◌∙◌, arith, subst, Option, Some, None, w64}
 use Rattle.std.specs.Prelude.{Contains}
 use Rattle.std.proofs.lemmas.Int.{to_z-of_z}
 use Rattle.std.proofs.lemmas.Option.{get_or_from_slice_get}
 use mir.Val.{SFits, of_z, to_z}
 use Rattle.clause_db.specs.Literal.{opposite}
 use Rattle.clause_db.specs.Numbered.{IsNumbered}
-use Rattle.unit_propagation.specs.Watching.{IsWatching, IsCovered, Holds}
+use Rattle.unit_propagation.specs.Watching.{Holds}
 use Rattle.unit_propagation.specs.Visiting.{IsLookBeside, IsLook, IsLookAt, IsBeside, WatchesNot, WatchesBeside}
 use Rattle.unit_propagation.specs.declared.watches.Watched.{Watched}
 use Rattle.unit_propagation.specs.declared.visits.Look.{Look}

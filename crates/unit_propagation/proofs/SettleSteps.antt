@@ -4,18 +4,18 @@ use Rattle.std.specs.Prelude.{Contains}
 use Rattle.std.proofs.Math.ListN.{length-set}
 use Rattle.std.proofs.lemmas.Bool.{cases_lt, cases_eq}
 use Rattle.std.proofs.lemmas.List.{get_or-set_other, get_or-set_same, get_or-take, get_or_default, get_or_append_left}
-use Rattle.clause_db.specs.Literal.{variable_of, opposite, IsOrdered}
+use Rattle.clause_db.specs.Literal.{variable_of, IsOrdered}
 use Rattle.clause_db.proofs.Ordered.{contains_at, variable_of-opposite}
 use Rattle.unit_propagation.specs.Places.{literal_at, PlacesAreRight, StartsAreRight}
 use Rattle.unit_propagation.specs.Truth.{IsFree}
 use Rattle.unit_propagation.specs.Status.{IsNext, Extends}
-use Rattle.unit_propagation.specs.Watching.{code_of, watching, Holds, HoldsBy, HoldsForGood, IsGuarded, IsWatching, IsCovered, IsWatched}
+use Rattle.unit_propagation.specs.Watching.{code_of, Holds, HoldsForGood, IsGuarded, IsCovered, IsWatched}
 use Rattle.unit_propagation.specs.Visiting.{IsNotFalse}
 use Rattle.unit_propagation.specs.Settling.{IsBehindDecisions, IsStanding, AreSettled, PendingHold}
 use Rattle.unit_propagation.specs.declared.watches.Watched.{Watched}
 use Rattle.unit_propagation.specs.declared.trail.Value.TheVariants.{True, False, Free}
 use Rattle.unit_propagation.proofs.Consistent.{consistent_from_places, free_not_false}
-use Rattle.unit_propagation.proofs.Trails.{literal_at-push_old, literal_at-push_new}
+use Rattle.unit_propagation.proofs.Trails.{literal_at-push_new}
 use Rattle.unit_propagation.proofs.Tables.{Keeps, enter_keeps, enter_has, contains_swap, length-swap_remove}
 use Rattle.unit_propagation.proofs.Covers.{covered-push, covered_lists}
 use Rattle.unit_propagation.proofs.VisitSteps.{pair_of}

@@ -1,5 +1,5 @@
 -- Lists in a table, to which entries come and from which they go.
-use Rattle.std.proofs.Common.{◌≡◌, ◌≢◌, ◌⊎◌, inl, inr, ℕ, ℤ, pos, negsuc, ◌<◌, ◌≤◌, ◌+◌, ◌-◌, ◌*◌, List, [], ◌∷◌, ◌++◌, length, slice_index, slice_index_or, slice_set, set, take, sym, ap, ◌∙◌, arith, subst, length-append, swap_remove, Vec}
+use Rattle.std.proofs.Common.{◌≡◌, ◌≢◌, inl, inr, ℕ, ℤ, pos, negsuc, ◌<◌, ◌≤◌, ◌+◌, ◌-◌, ◌*◌, List, [], ◌∷◌, ◌++◌, length, slice_index, slice_index_or, slice_set, set, take, sym, ap, ◌∙◌, arith, subst, length-append, swap_remove, Vec}
 use Rattle.std.specs.Global.{Global}
 use Rattle.std.specs.Prelude.{Contains}
 use Rattle.std.proofs.Math.ListN.{length-set}
@@ -9,7 +9,7 @@ use Rattle.std.proofs.lemmas.List.{get_or-set_other, get_or-set_same, get_or-tak
 use Rattle.clause_db.specs.declared.clause.Clause.{Clause}
 use Rattle.clause_db.specs.Literal.{variable_of}
 use Rattle.clause_db.specs.Log.{literal_lists}
-use Rattle.unit_propagation.specs.Watching.{sign_of, code_of, entries, watching}
+use Rattle.unit_propagation.specs.Watching.{code_of, entries, watching}
 use Rattle.unit_propagation.specs.Visiting.{IsLeft}
 
 -- one literal has one code

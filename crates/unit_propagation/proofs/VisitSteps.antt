@@ -1,8 +1,8 @@
 -- Steps of a visit.
-use Rattle.std.proofs.Common.{◌≡◌, ◌≢◌, ◌⊎◌, inl, inr, ℕ, ℤ, ◌<◌, ◌≤◌, ◌+◌, ◌*◌, List, [], ◌∷◌, ◌++◌, length, slice_index, slice_index_or, slice_set, refl, sym, ap, ◌∙◌, arith, subst, length-append, Option, Some, None, swap_remove}
+use Rattle.std.proofs.Common.{◌≡◌, ◌≢◌, ◌⊎◌, inl, inr, ℕ, ℤ, ◌<◌, ◌≤◌, ◌+◌, List, [], ◌∷◌, ◌++◌, length, slice_index, slice_index_or, slice_set, refl, sym, ap, ◌∙◌, arith, subst, length-append, Option, Some, None, swap_remove}
 use Rattle.std.specs.Prelude.{Contains}
 use Rattle.std.proofs.Math.ListN.{length-set}
-use Rattle.std.proofs.lemmas.Bool.{cases_lt, cases_eq}
+use Rattle.std.proofs.lemmas.Bool.{cases_eq}
 use Rattle.std.proofs.lemmas.List.{get_or-set_other, get_or-set_same}
 use Rattle.clause_db.specs.Literal.{variable_of, opposite}
 use Rattle.clause_db.proofs.Ordered.{contains_at, at_member, variable_of-opposite}
@@ -17,7 +17,7 @@ use Rattle.unit_propagation.specs.declared.watches.Watched.{Watched}
 use Rattle.unit_propagation.proofs.Consistent.{cases_int}
 use Rattle.unit_propagation.proofs.Trails.{literal_at-push_old, literal_at-push_new}
 use Rattle.unit_propagation.proofs.Tables.{Keeps, code_same, code_within, left_from_contains, left_swap, enter_keeps, enter_has, leave_keeps, watching_other, watching_same, length-swap_remove}
-use Rattle.unit_propagation.proofs.Covers.{guarded_not_false, guarded_more, guarded_fewer, covered-push, covered_lists, covered_fewer, covered_holds, covered_elsewhere, same_falsified}
+use Rattle.unit_propagation.proofs.Covers.{guarded_not_false, guarded_more, covered-push, covered_lists, covered_fewer, covered_holds, covered_elsewhere, same_falsified}
 
 -- a clause in any stage of a visit is covered
 pub covered_at : (trail : List ℤ) (starts : List ℕ) (head : ℕ) (l : ℤ) (start : ℕ) (lists : List (List ℕ)) (pending : List ℕ) (index : ℕ) (clause : List ℤ) (pair : Option Watched) → IsVisited trail starts head l start lists pending index clause pair → IsCovered trail starts head lists pending index clause pair

@@ -1,12 +1,11 @@
 -- Watches stay right as clauses are added, and as the trail is cut and goes on.
-use Rattle.std.proofs.Common.{◌≡◌, ◌≢◌, ◌⊎◌, inl, inr, ℕ, ℤ, pos, ◌<◌, ◌≤◌, ◌+◌, ◌*◌, List, [], ◌∷◌, ◌++◌, length, slice_index, slice_index_or, take, min, sym, ap, ◌∙◌, arith, subst, length-append, Option, Some, None}
+use Rattle.std.proofs.Common.{◌≡◌, inl, inr, ℕ, ℤ, pos, ◌<◌, ◌≤◌, ◌*◌, List, [], ◌∷◌, ◌++◌, length, slice_index, slice_index_or, take, min, sym, ap, ◌∙◌, arith, subst, length-append, Option, Some, None}
 use Rattle.std.specs.Prelude.{Contains}
 use Rattle.std.proofs.Math.Seq.{get_or-append_seam}
 use Rattle.std.proofs.lemmas.Bool.{cases_lt}
 use Rattle.std.proofs.lemmas.List.{get_or-take, length-take-le, get_or_append_left}
-use Rattle.clause_db.specs.Literal.{opposite}
 use Rattle.unit_propagation.specs.Places.{literal_at, StartsAreRight}
-use Rattle.unit_propagation.specs.Watching.{HoldsBy, HoldsForGood, IsGuarded, IsWatching, IsCovered, IsWatched}
+use Rattle.unit_propagation.specs.Watching.{HoldsBy, HoldsForGood, IsGuarded, IsCovered, IsWatched}
 use Rattle.unit_propagation.specs.declared.watches.Watched.{Watched}
 use Rattle.unit_propagation.proofs.Tables.{contains_push_old, contains_push_new}
 

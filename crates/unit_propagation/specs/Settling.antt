@@ -1,5 +1,5 @@
 -- Whole clauses are looked at, so that they can watch two literals.
-use Rattle.std.specs.Prelude.{◌≡◌, ◌≢◌, ℕ, ◌<◌, List, [], ℤ, length, slice_index, slice_index_or, Contains, Option, Some, None}
+use Rattle.std.specs.Prelude.{◌≢◌, ℕ, ◌<◌, List, [], ℤ, length, slice_index, slice_index_or, Contains, Option, Some, None}
 use Rattle.clause_db.specs.Numbered.{IsNumbered}
 use Rattle.unit_propagation.specs.Places.{literal_at}
 use Rattle.unit_propagation.specs.Truth.{IsFree}

@@ -1,5 +1,5 @@
 -- Two literals of each clause are watched.
-use Rattle.std.specs.Prelude.{◌≡◌, ◌≢◌, ◌⊎◌, ℕ, zero, suc, ◌+◌, ◌*◌, ◌<◌, ◌≤◌, List, [], map, ℤ, pos, negsuc, length, slice_index, slice_index_or, Contains, Option, Some, None, Vec}
+use Rattle.std.specs.Prelude.{◌≡◌, ◌≢◌, ◌⊎◌, ℕ, ◌+◌, ◌*◌, ◌<◌, ◌≤◌, List, [], map, ℤ, pos, negsuc, length, slice_index, slice_index_or, Contains, Option, Some, None, Vec}
 use Rattle.std.specs.Global.{Global}
 use Rattle.clause_db.specs.Literal.{variable_of, opposite}
 use Rattle.unit_propagation.specs.Places.{literal_at}

@@ -1,14 +1,14 @@
-use Rattle.std.proofs.Common.{rules, arith, ◌≡◌, ◌≢◌, ◌<◌, ◌++◌, ◌∷◌, [], ◌∙◌, ◌+◌, ap, pos, ℕ, ℤ, w64, Option, List, length, slice_index_or, slice_set, sym, subst, Some, None}
+use Rattle.std.proofs.Common.{rules, arith, ◌≡◌, ◌<◌, ◌++◌, ◌∷◌, [], ◌∙◌, ◌+◌, ap, pos, ℕ, ℤ, w64, List, length, slice_index_or, sym, subst}
 use Rattle.std.specs.Prelude.{Contains, All}
 use Rattle.std.proofs.lemmas.Int.{to_z-of_z}
 use mir.Val.{SFits, of_z, to_z}
-use Rattle.clause_db.specs.Literal.{variable_of, opposite}
+use Rattle.clause_db.specs.Literal.{variable_of}
 use Rattle.clause_db.specs.Log.{literal_lists, results}
 use Rattle.std.proofs.lemmas.List.{get_or_read}
 use Rattle.clause_db.proofs.Ordered.{contains_at}
 use Rattle.unit_propagation.specs.Places.{literal_at}
 use Rattle.unit_propagation.specs.Quiet.{IsFalseClause}
-use Rattle.unit_propagation.specs.Watching.{entries, IsGuarded, IsWatched, Holds}
+use Rattle.unit_propagation.specs.Watching.{entries, IsGuarded, Holds}
 use Rattle.unit_propagation.specs.Visiting.{OthersAreFalse}
 use Rattle.unit_propagation.proofs.Reasons.{reasons_forced}
 use Rattle.unit_propagation.proofs.Covers.{guarded_not_false, holds_from_contains}

@@ -1,8 +1,8 @@
-use Rattle.std.proofs.Common.{arith, ◌≡◌, ◌++◌, ◌∙◌, ℕ, ℤ, List, length, sym, subst}
+use Rattle.std.proofs.Common.{arith, ◌++◌, ◌∙◌, ℤ, List, length, sym, subst}
 use Rattle.clause_db.specs.Log.{literal_lists, results}
 use Rattle.unit_propagation.specs.Status.{FitsVariables}
 use Rattle.unit_propagation.specs.Watching.{entries}
-use Rattle.unit_propagation.specs.Settling.{AreSettled, IsSettleStep}
+use Rattle.unit_propagation.specs.Settling.{IsSettleStep}
 use Rattle.unit_propagation.proofs.Fits.{extends_trans}
 use Rattle.unit_propagation.proofs.SettleSteps.{pending_hold}
 use Rattle.unit_propagation.proofs.settling.settle_all.Goals as goal

@@ -1,8 +1,7 @@
-use Rattle.std.proofs.Common.{rules, arith, ◌≡◌, ◌≢◌, ◌<◌, ◌++◌, [], ◌∙◌, ◌+◌, ap, inl, inr, ℕ, ℤ, Option, List, length, slice_index, slice_index_or, sym, subst, Some, None, swap_remove, vec_len, eqb→eq}
+use Rattle.std.proofs.Common.{arith, ◌≡◌, ◌≢◌, ◌<◌, ◌++◌, [], ◌∙◌, ap, inl, inr, ℕ, ℤ, Option, List, length, slice_index, slice_index_or, sym, subst, None, swap_remove, vec_len, eqb→eq}
 use Rattle.std.proofs.lemmas.Float.{T_from_true}
 use Rattle.std.proofs.lemmas.List.{get_or_read}
 use Rattle.clause_db.specs.Log.{literal_lists, results}
-use Rattle.unit_propagation.specs.Quiet.{IsFalseClause}
 use Rattle.unit_propagation.specs.Watching.{entries, Holds}
 use Rattle.unit_propagation.specs.Settling.{IsSettled, AreSettled}
 use Rattle.unit_propagation.specs.declared.watches.Watched.{Watched}

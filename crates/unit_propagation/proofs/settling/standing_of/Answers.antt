@@ -1,4 +1,4 @@
-use Rattle.std.proofs.Common.{rules, arith, ◌≡◌, ◌<◌, ◌+◌, ℕ, ℤ, pos, w64, get_or, subst, List}
+use Rattle.std.proofs.Common.{rules, arith, ◌<◌, ◌+◌, ℕ, pos, w64, get_or, subst}
 use Rattle.std.proofs.lemmas.Int.{to_z-of_z}
 use mir.Val.{SFits}
 use Rattle.unit_propagation.specs.Status.{IsNext}

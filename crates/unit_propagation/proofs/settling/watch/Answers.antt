@@ -1,8 +1,6 @@
-use Rattle.std.proofs.Common.{rules, arith, refl, ◌≡◌, ◌≢◌, ◌<◌, ◌++◌, ◌∷◌, [], ◌∙◌, ◌+◌, ap, pos, ℕ, ℤ, w64, Option, List, length, slice_index_or, slice_set, sym, subst, Some, None}
-use Rattle.std.specs.Prelude.{Contains, All}
+use Rattle.std.proofs.Common.{rules, arith, refl, ◌≡◌, ◌<◌, ◌++◌, ◌∷◌, [], ◌∙◌, ap, ℕ, ℤ, w64, List, length, slice_index_or, slice_set, sym, subst, Some}
 use Rattle.std.proofs.lemmas.Int.{to_z-of_z}
 use mir.Val.{SFits, of_z, to_z}
-use Rattle.clause_db.specs.Literal.{variable_of, opposite}
 use Rattle.clause_db.specs.Log.{literal_lists, results}
 use Rattle.std.proofs.Math.ListN.{length-set}
 use Rattle.unit_propagation.specs.Watching.{entries, code_of, IsWatched}

@@ -1,4 +1,4 @@
-use Rattle.std.proofs.Common.{rules, arith, ℕ, sym, ◌∙◌, subst, w64}
+use Rattle.std.proofs.Common.{rules, arith, sym, ◌∙◌, subst, w64}
 use Rattle.std.specs.Prelude.{Contains}
 use Rattle.std.proofs.lemmas.Int.{to_z-of_z}
 use mir.Val.{SFits}

@@ -1,4 +1,4 @@
-use Rattle.std.proofs.Common.{rules, arith, ◌≡◌, ◌≢◌, ◌<◌, ◌^◌, ◌++◌, ◌∷◌, [], ◌∙◌, ◌+◌, ap, ℕ, ℤ, w64, Option, List, length, slice_index_or, slice_set, sym, subst, Some, None}
+use Rattle.std.proofs.Common.{rules, arith, ◌≡◌, ◌≢◌, ◌<◌, ◌++◌, ◌∷◌, [], ◌∙◌, ◌+◌, ap, ℕ, ℤ, w64, List, length, slice_index_or, slice_set, sym, subst, Some}
 use Rattle.std.specs.Prelude.{Contains}
 use Rattle.std.proofs.lemmas.Int.{to_z-of_z}
 use mir.Val.{SFits, of_z, to_z}
@@ -9,7 +9,6 @@ use Rattle.unit_propagation.specs.Watching.{entries, code_of, watching}
 use Rattle.unit_propagation.specs.Visiting.{IsVisiting, IsLookAt}
 use Rattle.unit_propagation.specs.declared.visits.Look.TheVariants.{Keeps, Moves}
 use Rattle.std.proofs.Math.ListN.{length-set}
-use Rattle.unit_propagation.specs.declared.watches.Watched.{Watched}
 use Rattle.unit_propagation.proofs.Reasons.{reasons_forced}
 use Rattle.unit_propagation.proofs.Tables.{code_within, entries_length}
 use Rattle.unit_propagation.proofs.VisitSteps.{watched_at, visit_keeps, visit_forces, visit_moves, visit_moves_nearer, moved_is, still_listed, member_fits, numbered_here, falsified_fits, pair_of, moved_lists}

@@ -1,7 +1,7 @@
-use Rattle.std.proofs.Common.{rules, arith, ◌≡◌, ◌++◌, ◌∙◌, ℕ, ℤ, List, length, sym, subst, w64, Some}
+use Rattle.std.proofs.Common.{◌++◌, ◌∙◌, ℤ, List, length, sym, subst, w64}
 use mir.Val.{of_z, to_z}
 use Rattle.clause_db.specs.Log.{literal_lists, results}
-use Rattle.unit_propagation.specs.Status.{FitsVariables, Extends}
+use Rattle.unit_propagation.specs.Status.{FitsVariables}
 use Rattle.unit_propagation.specs.Watching.{entries}
 use Rattle.unit_propagation.specs.Visiting.{IsVisiting, IsVisitStep}
 use Rattle.unit_propagation.proofs.Fits.{extends_trans}

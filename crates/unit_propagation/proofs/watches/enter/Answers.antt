@@ -1,6 +1,6 @@
 use Rattle.std.proofs.Common.{◌∙◌, ◌++◌, ◌∷◌, [], sym, ap, slice_set}
 use Rattle.unit_propagation.specs.Watching.{entries}
-use Rattle.unit_propagation.proofs.Tables.{entries_at, entries_set, leave_keeps}
+use Rattle.unit_propagation.proofs.Tables.{entries_at, entries_set}
 use Rattle.unit_propagation.proofs.watches.enter.Goals as goal
 
 pub returns : goal.returns

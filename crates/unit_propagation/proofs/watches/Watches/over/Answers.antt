@@ -1,4 +1,4 @@
-use Rattle.std.proofs.Common.{arith, ◌≡◌, ◌<◌, ◌+◌, [], ℕ, ℤ, List, length, length-append}
+use Rattle.std.proofs.Common.{arith, ◌<◌, ◌+◌, [], length, length-append}
 use Rattle.clause_db.specs.Log.{literal_lists}
 use Rattle.unit_propagation.specs.Watching.{entries}
 use Rattle.unit_propagation.proofs.Tables.{literal_lists_length}

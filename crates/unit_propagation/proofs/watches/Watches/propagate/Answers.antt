@@ -1,5 +1,5 @@
-use Rattle.std.proofs.Common.{rules, arith, ◌≡◌, ◌<◌, ◌++◌, ◌∙◌, ◌+◌, ◌-ℤ◌, pos, [], ap, ℕ, ℤ, w64, Option, List, length, slice_index_or, sym, subst, None}
-use Rattle.std.proofs.lemmas.Int.{to_z-of_z, fits_signed_from_abs, ints}
+use Rattle.std.proofs.Common.{rules, arith, ◌≡◌, ◌<◌, ◌++◌, ◌∙◌, ◌+◌, ◌-ℤ◌, pos, [], ap, ℕ, ℤ, w64, Option, List, length, slice_index_or, sym, subst}
+use Rattle.std.proofs.lemmas.Int.{fits_signed_from_abs}
 use Rattle.std.proofs.lemmas.List.{get_or_read}
 use Rattle.std.specs.Prelude.{Contains}
 use mir.Val.{SFits, of_z, to_z}
