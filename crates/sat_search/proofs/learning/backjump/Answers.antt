@@ -1,5 +1,5 @@
 use Rattle.std.proofs.Common.{rules, arith, ◌≡◌, ◌+◌, ◌-◌, ◌++◌, ◌<◌, length, ℤ, pos, ◌-ℤ◌, List, ap, sym, ◌∙◌, w64, subst, slice_index, take, min, ℕ, length-append}
-use Rattle.std.proofs.lemmas.Int.{to_z-of_z, ints, fits_signed_from_abs}
+use Rattle.std.proofs.lemmas.Int.{fits_signed_from_abs}
 use Rattle.std.proofs.lemmas.List.{get_or_read, length-map}
 use mir.Val.{SFits, of_z, to_z}
 use Rattle.clause_db.specs.Literal.{variable_of, opposite}
