@@ -1,20 +1,16 @@
 -- Propagation from the opposites of all literals of a clause but one, on a trail of decisions.
-use Rattle.std.proofs.Common.{◌≡◌, ◌≢◌, inl, inr, ℕ, zero, suc, ℤ, pos, ◌<◌, ◌+◌, ◌-◌, List, [], ◌∷◌, ◌++◌, length, map, take, drop, slice_index_or, get_or, get_or-take, get_or-drop, length-take, length-drop, length-append, sym, ap, ◌∙◌, arith, subst}
+use Rattle.std.proofs.Common.{◌≡◌, ◌≢◌, inl, inr, ℕ, zero, suc, ℤ, pos, ◌<◌, ◌+◌, ◌-◌, List, ◌∷◌, ◌++◌, length, map, take, drop, slice_index_or, get_or, get_or-take, get_or-drop, length-take, length-drop, length-append, sym, ap, ◌∙◌, arith, subst}
 use Rattle.std.specs.Prelude.{Contains}
 use Rattle.std.proofs.lemmas.Bool.{cases_lt}
 use Rattle.std.proofs.Math.Seq.{drop-cons, get_or-append_seam, take-append_seam, drop-append-add}
-use Rattle.std.proofs.lemmas.List.{take-append-drop, get_or_default, get_or-map, length-map, get_or_append_left}
+use Rattle.std.proofs.lemmas.List.{take-append-drop, get_or_default, get_or-map, length-map}
 use Rattle.std.proofs.lemmas.List.Elements.{Contains-append_cases, Contains-append_left, Contains-append_right}
-use Rattle.clause_db.specs.Literal.{variable_of, opposite, IsOrdered}
-use Rattle.clause_db.specs.Propagation.{StrengthensPropagation, Propagates, PropagationRefutes, assumption, unit}
-use Rattle.clause_db.proofs.Ordered.{variable_of-opposite, contains_at, read_at_place, variable_at}
+use Rattle.clause_db.specs.Literal.{opposite}
+use Rattle.clause_db.specs.Propagation.{StrengthensPropagation, Propagates, PropagationRefutes, unit}
+use Rattle.clause_db.proofs.Ordered.{contains_at, read_at_place}
 use Rattle.clause_db.proofs.Places.{contains_numbered}
 use Rattle.unit_propagation.specs.Places.{literal_at}
-use Rattle.unit_propagation.specs.Truth.{IsFree}
-use Rattle.unit_propagation.specs.Quiet.{IsFalseClause, IsQuiet, HasReasons}
-use Rattle.unit_propagation.specs.Status.{Extends}
-use Rattle.unit_propagation.proofs.Consistent.{IsConsistent}
-use Rattle.unit_propagation.proofs.Complete.{propagation_stays, refutes_nothing}
+use Rattle.unit_propagation.specs.Quiet.{IsFalseClause, HasReasons}
 use Rattle.refutation_check.specs.Budget.{opposites_but, IsNewAt}
 
 -- an element of the opposites is one of an element

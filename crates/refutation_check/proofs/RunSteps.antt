@@ -1,15 +1,15 @@
 -- Steps of a run: a literal is assumed to be false, decisions are taken back, a clause is added.
-use Rattle.std.proofs.Common.{◌==◌, ◌^◌, Bool, true, false, zero, suc, ◌≡◌, ◌≢◌, ◌⊎◌, inl, inr, ℕ, ℤ, pos, ◌<◌, ◌≤◌, ◌+◌, ◌-◌, List, [], ◌∷◌, ◌++◌, length, map, take, drop, slice_index, slice_index_or, None, refl, sym, ap, ◌∙◌, arith, subst, length-append, append_assoc}
+use Rattle.std.proofs.Common.{◌==◌, ◌^◌, Bool, true, false, zero, suc, ◌≡◌, ◌≢◌, inl, inr, ℕ, ℤ, pos, ◌<◌, ◌+◌, List, [], ◌∷◌, ◌++◌, length, take, drop, slice_index, slice_index_or, None, refl, sym, ap, ◌∙◌, arith, subst, length-append, append_assoc}
 use Rattle.std.specs.Prelude.{Contains}
 use Rattle.std.specs.Bool.{OnTrue, OnFalse}
 use Rattle.clause_db.specs.declared.clause.Clause.{Clause}
-use Rattle.std.proofs.lemmas.Bool.{cases_lt, cases_eq}
+use Rattle.std.proofs.lemmas.Bool.{cases_lt}
 use Rattle.std.proofs.Math.Seq.{get_or-append_seam}
 use Rattle.std.proofs.lemmas.List.{get_or_append_left, get_or_default, map-append}
 use Rattle.std.proofs.lemmas.List.Elements.{Contains-append_cases, Contains-append_left, Contains-append_right}
 use Rattle.clause_db.specs.Literal.{variable_of, opposite, IsOrdered}
-use Rattle.clause_db.specs.Propagation.{Propagates, PropagationRefutes, assumption, unit}
-use Rattle.clause_db.proofs.Ordered.{variable_of-opposite, opposite-opposite, not_opposite_self, contains_at, read_at_place, same_place, at_member}
+use Rattle.clause_db.specs.Propagation.{Propagates, PropagationRefutes, assumption}
+use Rattle.clause_db.proofs.Ordered.{variable_of-opposite, not_opposite_self, contains_at, read_at_place, same_place, at_member}
 use Rattle.clause_db.proofs.Places.{contains_numbered}
 use Rattle.unit_propagation.specs.Places.{literal_at}
 use Rattle.unit_propagation.specs.Quiet.{IsFalseClause, IsQuiet, HasReasons}
@@ -88,12 +88,16 @@ true_refutes clauses trail l has w assumed is decided =
     let propagates : (m : ℤ) → Contains trail.literals.items m → Propagates clauses assumed m = trail_propagates clauses assumed trail.literals.items trail.starts.items trail.reasons.items has (λ p h v. assumption (decided p h v)) in
     elim (has w.0 w.1) [
       | inl v ↦ absurd (is.1 (subst (Contains assumed) at (decided w.0 w.1 v)))
-      | inr v ↦ (v.0, contains_numbered clauses _ v.0 v.1, λ m in_clause. elim (cases_int m l) [
-        | inl e ↦ assumption (subst (λ x. Contains assumed (opposite x)) (sym e) is.0)
-        | inr ne ↦
-            let f = v.2.others_false m in_clause (λ e. ne (e ∙ at)) in
-            propagates (opposite m) (subst (Contains trail.literals.items) f.3 (contains_at trail.literals.items f.0 f.2))
-      ])
+      | inr v ↦ (
+        v.0,
+        contains_numbered clauses _ v.0 v.1,
+        λ m in_clause. elim (cases_int m l) [
+          | inl e ↦ assumption (subst (λ x. Contains assumed (opposite x)) (sym e) is.0)
+          | inr ne ↦
+              let f = v.2.others_false m in_clause (λ e. ne (e ∙ at)) in
+              propagates (opposite m) (subst (Contains trail.literals.items) f.3 (contains_at trail.literals.items f.0 f.2))
+        ],
+      )
     ]
 
 module _ (clause : List ℤ) (ordered : IsOrdered clause) (positive : (l : ℤ) → Contains clause l → 0 < variable_of l) (left_out : ℕ) (within : left_out < length clause) where
@@ -102,11 +106,11 @@ module _ (clause : List ℤ) (ordered : IsOrdered clause) (positive : (l : ℤ) 
   other_assumed place low ne = (
     map_contains opposite (take left_out clause ++ drop (left_out + 1) clause) (literal_at clause place) (at_other_place clause left_out place low ne),
     λ w.
-      let m = contains_map opposite (take left_out clause ++ drop (left_out + 1) clause) (literal_at clause place) w in
-      let j = other_place clause left_out m.0 within m.1 in
-      let is : literal_at clause place ≡ opposite (literal_at clause j.0) = m.2 ∙ ap opposite (sym j.3) in
-      let same : place ≡ j.0 = same_place clause place j.0 ordered low j.1 (ap variable_of is ∙ variable_of-opposite (literal_at clause j.0)) in
-      not_opposite_self (literal_at clause place) (positive (literal_at clause place) (contains_at clause place low)) (is ∙ ap (λ k. opposite (literal_at clause k)) (sym same)),
+        let m = contains_map opposite (take left_out clause ++ drop (left_out + 1) clause) (literal_at clause place) w in
+        let j = other_place clause left_out m.0 within m.1 in
+        let is : literal_at clause place ≡ opposite (literal_at clause j.0) = m.2 ∙ ap opposite (sym j.3) in
+        let same : place ≡ j.0 = same_place clause place j.0 ordered low j.1 (ap variable_of is ∙ variable_of-opposite (literal_at clause j.0)) in
+        not_opposite_self (literal_at clause place) (positive (literal_at clause place) (contains_at clause place low)) (is ∙ ap (λ k. opposite (literal_at clause k)) (sym same)),
   )
 
 -- one place more is passed

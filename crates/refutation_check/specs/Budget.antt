@@ -1,4 +1,4 @@
-use Rattle.std.specs.Prelude.{◌≡◌, ◌≢◌, ◌⊎◌, ℕ, ◌+◌, ◌<◌, ℤ, List, [], ◌++◌, map, take, drop, length, slice_index_or, Option, Some, None, Contains}
+use Rattle.std.specs.Prelude.{◌≡◌, ◌≢◌, ◌⊎◌, ℕ, ◌+◌, ◌<◌, ℤ, List, [], ◌++◌, map, take, drop, length, slice_index_or, Option, Some, None}
 use Rattle.clause_db.specs.declared.clause.LogLine.{LogLine}
 use Rattle.clause_db.specs.Literal.{opposite}
 use Rattle.clause_db.specs.Log.{results, IsDerived}

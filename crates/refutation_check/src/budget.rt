@@ -38,11 +38,7 @@ fn strengthens(
 }
 
 /// Does propagation alone refute the clauses?
-fn is_refuted(
-    clauses: &Clauses,
-    trail: &mut Trail,
-    watches: &mut Watches,
-) -> Result<bool, Memory>
+fn is_refuted(clauses: &Clauses, trail: &mut Trail, watches: &mut Watches) -> Result<bool, Memory>
     requires { IsRootRun (literal_lists clauses.now.list.items ++ []) trail.old watches.old }
     ensures run { IfOk result (λ _. IsRootRun (literal_lists clauses.now.list.items ++ []) trail.new watches.new) }
     ensures answer { IfOk result (λ refuted. IsTrue refuted ↔ PropagationRefutes (literal_lists clauses.now.list.items) []) }
@@ -81,11 +77,7 @@ fn budget_fault_of_line(
 }
 
 /// A trail on which nothing is known, and the watches of a list of clauses.
-fn root_run(
-    alloc: Global,
-    clauses: &Clauses,
-    variables: u64,
-) -> Result<(Trail, Watches), Memory>
+fn root_run(alloc: Global, clauses: &Clauses, variables: u64) -> Result<(Trail, Watches), Memory>
     requires bounded { variables < 2 ^ 60 }
     requires fits { FitsVariables (variables + 1) (literal_lists clauses.now.list.items) }
     ensures { IfOk result (λ both. IsRootRun (literal_lists clauses.now.list.items ++ []) both.0 both.1) }

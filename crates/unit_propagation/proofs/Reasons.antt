@@ -69,13 +69,13 @@ pub reasons_more_clauses : (clauses more : List (List ℤ)) (trail : List ℤ) (
 reasons_more_clauses clauses more trail starts reasons has p h =
     elim (has p h) [ inl w ↦ inl w | inr w ↦ inr (w.0, IsNumbered-append clauses more _ w.0 w.1, w.2) ]
 
-module _ (trail : List ℤ) (starts : List ℕ) (starts_right : StartsAreRight starts (length trail)) (level : ℕ) (in_starts : level < length starts) where
-  starts_mono : (j k : ℕ) → j ≤ k → k < length starts → slice_index starts j ≤ slice_index starts k
-  starts_mono j k h within = elim (cases_eq j k) [
-    | inl e ↦ let f = ap (slice_index starts) e in omega (arith, f)
-    | inr ne ↦ let f = starts_right.increasing j k (omega (arith, ne)) within in omega (arith, f)
-  ]
+pub starts_mono : (trail : List ℤ) (starts : List ℕ) → StartsAreRight starts (length trail) → (j k : ℕ) → j ≤ k → k < length starts → slice_index starts j ≤ slice_index starts k
+starts_mono trail starts right j k h within = elim (cases_eq j k) [
+  | inl e ↦ let f = ap (slice_index starts) e in omega (arith, f)
+  | inr ne ↦ let f = right.increasing j k (omega (arith, ne)) within in omega (arith, f)
+]
 
+module _ (trail : List ℤ) (starts : List ℕ) (starts_right : StartsAreRight starts (length trail)) (level : ℕ) (in_starts : level < length starts) where
   -- reasons stay, where decisions are taken back
   pub reasons_taken_back : (clauses : List (List ℤ)) (reasons : List ℕ) → HasReasons clauses trail starts reasons → HasReasons clauses (take (slice_index starts level) trail) (take level starts) reasons
   reasons_taken_back clauses reasons has p h =
@@ -86,7 +86,7 @@ module _ (trail : List ℤ) (starts : List ℕ) (starts_right : StartsAreRight s
       elim (has p within) [
         | inl w ↦
             let at : slice_index starts w.0 ≡ p = get_or_default starts w.0 0 p w.1 ∙ w.2 in
-            let before : w.0 < level = elim (cases_lt w.0 level) [ inl g ↦ g | inr g ↦ absurd (let m = starts_mono level w.0 g w.1 in omega (arith, m, at, low)) ] in
+            let before : w.0 < level = elim (cases_lt w.0 level) [ inl g ↦ g | inr g ↦ absurd (let m = starts_mono trail starts starts_right level w.0 g w.1 in omega (arith, m, at, low)) ] in
             inl (w.0, (let g = length-take level starts in omega (arith, g, before, w.1)), get_or-take level starts w.0 p before ∙ w.2)
         | inr w ↦ inr (
           w.0,

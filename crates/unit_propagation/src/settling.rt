@@ -8,7 +8,7 @@ ghost use Rattle.unit_propagation.specs.Watching.{entries, watching, IsGuarded, 
 ghost use Rattle.unit_propagation.specs.Visiting.{IsNearer};
 ghost use Rattle.unit_propagation.specs.Settling.{IsStanding, IsSettled, IsSettleStep, AreSettled, IsSettleEnd, IsBehindDecisions};
 
-use crate::propagation::next_not_false;
+use crate::literals::next_not_false;
 use crate::trail::{Trail, Value};
 use crate::visits::Step;
 use crate::watches::{Watched, Watches, code, enter};

@@ -1,4 +1,4 @@
-use crate::{Trail, Value, Watches, propagate};
+use crate::{Trail, Value, Watches};
 use clause_db::{Clause, Clauses, is_clause, largest_variable};
 use std::alloc::Global;
 use std::test::Fail;
@@ -30,7 +30,8 @@ fn propagated(alloc: Global, clauses: &Clauses) -> Result<(Trail, Option<u64>), 
         return Err("too many variables")?;
     }
     let mut trail = Trail::new(alloc, variables as usize)?;
-    let found = propagate(clauses, &[], &mut trail)?;
+    let mut watches = Watches::over(alloc, clauses, variables as usize)?;
+    let found = watches.propagate(clauses, &[], &mut trail)?;
     Ok((trail, found))
 }
 
@@ -50,7 +51,7 @@ fn a_clause_that_comes_false(rt: HostRuntime) -> Result<(), Fail> {
     let alloc = rt.alloc();
     let clauses = list(alloc, &[&[1], &[-1, 2], &[-2]])?;
     let (_trail, found) = propagated(alloc, &clauses)?;
-    assert_eq!(rt; found, Some(3));
+    assert_eq!(rt; found, Some(2));
     Ok(())
 }
 
@@ -66,36 +67,5 @@ fn a_decision_taken_back(rt: HostRuntime) -> Result<(), Fail> {
     trail.cut(0);
     assert_eq!(rt; trail.value(2), Value::Free);
     assert_eq!(rt; trail.literals.len(), 0);
-    Ok(())
-}
-
-fn watched(alloc: Global, clauses: &Clauses) -> Result<(Trail, Option<u64>), Fail> {
-    let variables = largest_variable(&clauses.list);
-    if variables >= 1 << 59 {
-        return Err("too many variables")?;
-    }
-    let mut trail = Trail::new(alloc, variables as usize)?;
-    let mut watches = Watches::over(alloc, clauses, variables as usize)?;
-    let found = watches.propagate(clauses, &[], &mut trail)?;
-    Ok((trail, found))
-}
-
-#[test]
-fn watched_force(rt: HostRuntime) -> Result<(), Fail> {
-    let alloc = rt.alloc();
-    // The clause that forces 2 stands before the one that forces 1.
-    let clauses = list(alloc, &[&[-1, 2], &[1], &[-2, 3, 4]])?;
-    let (trail, found) = watched(alloc, &clauses)?;
-    assert_eq!(rt; found, None);
-    assert_eq!(rt; trail.literals.as_slice(), [1, 2].as_slice());
-    Ok(())
-}
-
-#[test]
-fn watched_false(rt: HostRuntime) -> Result<(), Fail> {
-    let alloc = rt.alloc();
-    let clauses = list(alloc, &[&[1], &[-1, 2], &[-2]])?;
-    let (_trail, found) = watched(alloc, &clauses)?;
-    assert_eq!(rt; found, Some(2));
     Ok(())
 }

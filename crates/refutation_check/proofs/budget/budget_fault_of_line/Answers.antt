@@ -1,4 +1,4 @@
-use Rattle.std.proofs.Common.{ℤ, ◌+◌, inl, inr, List, ◌++◌, length, subst, refl}
+use Rattle.std.proofs.Common.{ℤ, inl, inr, List, ◌++◌, length, subst, refl}
 use Rattle.clause_db.specs.Log.{literal_lists, results}
 use Rattle.refutation_check.specs.Faults.{IsVerdict}
 use Rattle.refutation_check.proofs.Bounded.{line_below}

@@ -5,7 +5,6 @@ use Rattle.std.specs.Prelude.{All}
 use Rattle.clause_db.specs.declared.clause.LogLine.{LogLine}
 use Rattle.clause_db.specs.Literal.{variable_of}
 use Rattle.clause_db.specs.Log.{literal_lists, results}
-use Rattle.unit_propagation.specs.Status.{FitsVariables}
 use Rattle.unit_propagation.proofs.Fits.{fits_list}
 use Rattle.refutation_check.specs.Budget.{IsBudgetVerdict, IsBudgetLine, BudgetLineFault}
 use Rattle.refutation_check.specs.declared.fault.LogFault.TheVariants.{Line}

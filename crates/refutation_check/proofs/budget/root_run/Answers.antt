@@ -1,8 +1,7 @@
-use Rattle.std.proofs.Common.{arith, ◌≡◌, ◌+◌, ◌<◌, ◌++◌, [], ap, ℕ, ℤ, List, length, sym, subst}
+use Rattle.std.proofs.Common.{arith, ap, ℤ, List, length, sym, subst}
 use Rattle.std.proofs.lemmas.List.{append-nil}
 use Rattle.clause_db.specs.Log.{literal_lists}
 use Rattle.unit_propagation.specs.Status.{FitsVariables}
-use Rattle.unit_propagation.specs.Watching.{entries, IsWatched}
 use Rattle.unit_propagation.proofs.Tables.{literal_lists_length}
 use Rattle.refutation_check.specs.Runs.{IsRootRun}
 use Rattle.refutation_check.proofs.budget.root_run.Goals as goal

@@ -1,23 +1,13 @@
-use Rattle.std.proofs.Common.{rules, arith, ◌≡◌, ◌≢◌, ◌<◌, ◌^◌, ◌++◌, ◌∷◌, [], ◌∙◌, ◌+◌, ◌-ℤ◌, pos, ap, ℕ, ℤ, w64, Option, List, length, slice_index, slice_index_or, set, take, min, sym, subst, refl, Some, None}
-use Rattle.std.specs.Prelude.{Contains, All}
-use Rattle.std.proofs.lemmas.Int.{to_z-of_z, fits_signed_from_abs}
+use Rattle.std.proofs.Common.{rules, ◌≡◌, ◌++◌, ◌∙◌, pos, ℤ, w64, List, subst}
+use Rattle.std.specs.Prelude.{Contains}
+use Rattle.std.proofs.lemmas.Int.{to_z-of_z}
 use Rattle.std.proofs.lemmas.List.{get_or_read}
 use mir.Val.{SFits, of_z, to_z}
-use Rattle.clause_db.specs.Literal.{variable_of, opposite}
+use Rattle.clause_db.specs.Literal.{opposite}
 use Rattle.clause_db.specs.Log.{literal_lists, results}
-use Rattle.clause_db.proofs.Ordered.{variable_of-opposite}
-use Rattle.clause_db.proofs.Places.{contains_numbered}
 use Rattle.unit_propagation.specs.Places.{literal_at}
-use Rattle.unit_propagation.specs.Truth.{IsFree}
-use Rattle.unit_propagation.specs.Status.{FitsVariables, Extends, IsOutcome}
-use Rattle.unit_propagation.specs.Watching.{entries, IsWatched}
-use Rattle.unit_propagation.proofs.Reasons.{reasons_open}
-use Rattle.unit_propagation.proofs.Handled.{zero_minus, negated_read}
-use Rattle.unit_propagation.proofs.SettleSteps.{watched-push}
-use Rattle.unit_propagation.proofs.Watchings.{watched_open}
 use Rattle.refutation_check.specs.Budget.{opposites_but}
-use Rattle.refutation_check.specs.Runs.{IsAssumedFalse, StaysDecided, RefutesWith, AreDecidedFrom}
-use Rattle.std.specs.Bool.{OnTrue, OnFalse}
+use Rattle.refutation_check.specs.Runs.{StaysDecided, RefutesWith}
 use Rattle.refutation_check.proofs.RunSteps.{other_assumed_of, others_more, map_true, map_false}
 use Rattle.refutation_check.proofs.tries.assume_other.Goals as goal
 

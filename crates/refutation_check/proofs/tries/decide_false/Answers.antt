@@ -1,23 +1,18 @@
-use Rattle.std.proofs.Common.{rules, arith, ◌≡◌, ◌≢◌, ◌<◌, ◌^◌, ◌++◌, ◌∷◌, [], ◌∙◌, ◌+◌, ◌-ℤ◌, pos, ap, ℕ, ℤ, w64, Option, List, length, slice_index, slice_index_or, set, take, min, sym, subst, refl, Some, None}
-use Rattle.std.specs.Prelude.{Contains, All}
-use Rattle.std.proofs.lemmas.Int.{to_z-of_z, fits_signed_from_abs}
-use Rattle.std.proofs.lemmas.List.{get_or_read}
+use Rattle.std.proofs.Common.{rules, arith, ◌≡◌, ◌++◌, ◌∷◌, [], ◌∙◌, ◌-ℤ◌, pos, ap, ℕ, ℤ, w64, List, length, sym, subst}
+use Rattle.std.proofs.lemmas.Int.{fits_signed_from_abs}
 use mir.Val.{SFits, of_z, to_z}
 use Rattle.clause_db.specs.Literal.{variable_of, opposite}
 use Rattle.clause_db.specs.Log.{literal_lists, results}
 use Rattle.clause_db.proofs.Ordered.{variable_of-opposite}
 use Rattle.clause_db.proofs.Places.{contains_numbered}
-use Rattle.unit_propagation.specs.Places.{literal_at}
-use Rattle.unit_propagation.specs.Truth.{IsFree}
 use Rattle.unit_propagation.specs.Status.{FitsVariables, Extends, IsOutcome}
-use Rattle.unit_propagation.specs.Watching.{entries, IsWatched}
+use Rattle.unit_propagation.specs.Watching.{entries}
 use Rattle.unit_propagation.proofs.Reasons.{reasons_open}
 use Rattle.unit_propagation.proofs.Handled.{zero_minus, negated_read}
 use Rattle.unit_propagation.proofs.SettleSteps.{watched-push}
 use Rattle.unit_propagation.proofs.Watchings.{watched_open}
-use Rattle.refutation_check.specs.Budget.{opposites_but}
-use Rattle.refutation_check.specs.Runs.{IsRun, AreDecidedFrom}
-use Rattle.refutation_check.proofs.RunSteps.{stays_decided, decided_there, started_open, false_refutes, extends_more}
+use Rattle.refutation_check.specs.Runs.{IsRun}
+use Rattle.refutation_check.proofs.RunSteps.{stays_decided, decided_there, started_open, false_refutes}
 use Rattle.refutation_check.proofs.tries.decide_false.Goals as goal
 
 pub propagate-requires-clause-fits : goal.propagate-requires-clause-fits

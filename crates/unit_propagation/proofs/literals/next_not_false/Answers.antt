@@ -4,7 +4,7 @@ use Rattle.std.proofs.lemmas.Int.{to_z-of_z}
 use Rattle.std.proofs.lemmas.Bool.{cases_lt}
 use mir.Val.{SFits}
 use Rattle.clause_db.specs.Literal.{opposite}
-use Rattle.unit_propagation.proofs.propagation.next_not_false.Goals as goal
+use Rattle.unit_propagation.proofs.literals.next_not_false.Goals as goal
 
 pub loop-place-preserved : goal.loop-place-preserved
 loop-place-preserved c p from to =
