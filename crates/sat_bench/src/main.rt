@@ -31,7 +31,11 @@ fn limit_of(numbers: &[i64]) -> u32 {
         return 0;
     }
     let limit = numbers[0];
-    if limit < 0 || limit > 1000000000 { 0 } else { limit as u32 }
+    if limit < 0 || limit > 1000000000 {
+        0
+    } else {
+        limit as u32
+    }
 }
 
 /// Says what a search came to, and whether its log is accepted.
