@@ -4,3 +4,4 @@ pub mod Unique
 pub mod Assumed
 pub mod Bounded
 pub mod BudgetLogs
+pub mod RunSteps

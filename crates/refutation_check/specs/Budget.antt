@@ -1,4 +1,4 @@
-use Rattle.std.specs.Prelude.{◌≡◌, ◌≢◌, ◌⊎◌, ℕ, ◌+◌, ◌<◌, ℤ, List, [], ◌++◌, map, take, drop, length, slice_index_or, Option, Some, None, Contains}
+use Rattle.std.specs.Prelude.{◌≡◌, ◌≢◌, ◌⊎◌, ℕ, ◌+◌, ◌<◌, ℤ, List, [], ◌++◌, map, take, drop, length, slice_index_or, Option, Some, None}
 use Rattle.clause_db.specs.declared.clause.LogLine.{LogLine}
 use Rattle.clause_db.specs.Literal.{opposite}
 use Rattle.clause_db.specs.Log.{results, IsDerived}
@@ -16,14 +16,6 @@ opposites_but clause place = map opposite (take place clause ++ drop (place + 1)
 abbrev pub IsNewAt : List (List ℤ) → List ℤ → ℕ → Type 0
 IsNewAt earlier clause place =
     (PropagationRefutes earlier (opposites_but clause place) → ⊥) × (Propagates earlier (opposites_but clause place) (literal_at clause place) → ⊥)
-
--- on the trail are the opposites of the literals before a place, but for the one that is left out, and each of
--- them is a decision
-pub record AreAssumed (clause : List ℤ) (left_out end : ℕ) (trail : List ℤ) (starts : List ℕ) : Type 0 where
-  pub false_there : (k : ℕ) → k < end → k ≢ left_out → Contains trail (opposite (literal_at clause k))
-  pub of_clause : (p : ℕ) → p < length trail → (k : ℕ) × (k < end) × (k ≢ left_out) × (literal_at trail p ≡ opposite (literal_at clause k))
-  pub decided : (p : ℕ) → p < length trail → Contains starts p
-  pub started : (j : ℕ) → j < length starts → slice_index_or starts j 0 < length trail
 
 -- the line is derived, and tells propagation something new
 abbrev pub IsBudgetLine : List (List ℤ) → LogLine → Type 0

@@ -2,17 +2,16 @@
 -- latest literal is true.
 use Rattle.std.proofs.Common.{◌≡◌, ◌≢◌, inl, inr, ℕ, ℤ, pos, ◌<◌, ◌≤◌, ◌+◌, ◌-◌, List, [], ◌∷◌, ◌++◌, length, take, set, slice_index, slice_index_or, get_or-take, length-take, length-append, sym, ap, ◌∙◌, arith, subst}
 use Rattle.std.specs.Prelude.{Contains}
-use Rattle.std.proofs.lemmas.Bool.{cases_lt, cases_eq}
-use Rattle.std.proofs.lemmas.List.{get_or_default, take-append-le, length-take-le, take-take}
+use Rattle.std.proofs.lemmas.Bool.{cases_lt}
+use Rattle.std.proofs.lemmas.List.{take-append-le, length-take-le, take-take}
 use Rattle.std.proofs.lemmas.List.Elements.{All-push}
 use Rattle.clause_db.specs.Literal.{variable_of, opposite, IsOrdered}
-use Rattle.clause_db.specs.Numbered.{IsNumbered}
 use Rattle.clause_db.proofs.Ordered.{variable_of-opposite, opposite-opposite, contains_at, read_at_place, same_place}
 use Rattle.clause_db.proofs.Places.{IsNumbered-last}
 use Rattle.unit_propagation.specs.Places.{literal_at, PlacesAreRight, StartsAreRight}
 use Rattle.unit_propagation.specs.Truth.{IsFree}
-use Rattle.unit_propagation.specs.Quiet.{IsFalseClause, IsQuiet, IsQuietClause, HasReasons}
-use Rattle.unit_propagation.proofs.Reasons.{reasons_forced, reasons_more_clauses}
+use Rattle.unit_propagation.specs.Quiet.{IsFalseClause, IsQuiet, IsQuietClause}
+use Rattle.unit_propagation.proofs.Reasons.{reasons_forced, reasons_more_clauses, starts_mono, reasons_taken_back}
 use Rattle.sat_search.specs.Latest.{IsLatest, place_in}
 use Rattle.sat_search.specs.Learning.{IsSearching, IsLevelAfter, last_start}
 use Rattle.sat_search.proofs.Chain.{take_contains}
@@ -28,40 +27,6 @@ module _ (trail : List ℤ) (places : List ℕ) (right : PlacesAreRight trail pl
       let place = (right.of_literal p within).2 in
       let there = ap (slice_index places) same in
       omega (arith, place, there, behind, low)
-
-  starts_mono : (j k : ℕ) → j ≤ k → k < length starts → slice_index starts j ≤ slice_index starts k
-  starts_mono j k h within = elim (cases_eq j k) [
-    | inl e ↦ let f = ap (slice_index starts) e in omega (arith, f)
-    | inr ne ↦ let f = starts_right.increasing j k (omega (arith, ne)) within in omega (arith, f)
-  ]
-
-  module _ (level : ℕ) (in_starts : level < length starts) where
-    cut_within : slice_index starts level ≤ length trail
-    cut_within = starts_right.within level in_starts
-
-    -- reasons stay, where decisions are taken back
-    pub reasons_cut : (clauses : List (List ℤ)) (reasons : List ℕ) → HasReasons clauses trail starts reasons → HasReasons clauses (take (slice_index starts level) trail) (take level starts) reasons
-    reasons_cut clauses reasons has p h =
-        let s : ℕ = slice_index starts level in
-        let low : p < s = let g = length-take s trail in omega (arith, g, h) in
-        let within : p < length trail = let g = length-take s trail in omega (arith, g, h) in
-        let same : literal_at (take s trail) p ≡ literal_at trail p = get_or-take s trail p (pos 0) low in
-        elim (has p within) [
-          | inl w ↦
-              let at : slice_index starts w.0 ≡ p = get_or_default starts w.0 0 p w.1 ∙ w.2 in
-              let before : w.0 < level = elim (cases_lt w.0 level) [ inl g ↦ g | inr g ↦ absurd (let m = starts_mono level w.0 g w.1 in omega (arith, m, at, low)) ] in
-              inl (w.0, (let g = length-take level starts in omega (arith, g, before, w.1)), get_or-take level starts w.0 p before ∙ w.2)
-          | inr w ↦ inr (
-            w.0,
-            subst (λ l. IsNumbered clauses (slice_index reasons (variable_of l)) w.0) (sym same) w.1,
-            record {
-              has = subst (Contains w.0) (sym same) w.2.has;
-              others_false = λ m v ne.
-                  let f = w.2.others_false m v (λ e. ne (e ∙ sym same)) in
-                  (f.0, f.1, (let g = length-take s trail in omega (arith, g, f.1, f.2, low)), get_or-take s trail f.0 (pos 0) (omega (arith, f.1, low)) ∙ f.3);
-            },
-          )
-        ]
 
 module _ (trail : List ℤ) (places : List ℕ) (right : PlacesAreRight trail places) (starts : List ℕ) (starts_right : StartsAreRight starts (length trail)) (clauses : List (List ℤ)) (reasons : List ℕ) (searching : IsSearching clauses trail starts reasons) (learnt : List ℤ) (ordered : IsOrdered learnt) (all_false : IsFalseClause trail learnt) (last second : ℕ) (latest : IsLatest places learnt (length learnt) last second) (decided : 0 < length starts) (after : last_start starts < last) (before : second ≤ last_start starts) (level : ℕ) (level_right : IsLevelAfter starts second level) where
   -- the level lies below the last decision
@@ -79,7 +44,7 @@ module _ (trail : List ℤ) (places : List ℕ) (right : PlacesAreRight trail pl
   start = slice_index starts level
 
   start_low : slice_index starts level ≤ last_start starts
-  start_low = starts_mono trail places right starts starts_right level (length starts - 1) (omega (arith, level_below)) (omega (arith, decided))
+  start_low = starts_mono trail starts starts_right level (length starts - 1) (omega (arith, level_below)) (omega (arith, decided))
 
   second_low : second ≤ slice_index starts level
   second_low = level_right.behind level_below
@@ -129,7 +94,7 @@ module _ (trail : List ℤ) (places : List ℕ) (right : PlacesAreRight trail pl
   pub searching_after : length reasons ≡ length places → IsSearching (clauses ++ learnt ∷ []) (take (slice_index starts level) trail ++ opposite (literal_at trail (last - 1)) ∷ []) (take level starts) (set reasons (variable_of (opposite (literal_at trail (last - 1)))) (length clauses + 1))
   searching_after same_variables = record {
     has_reasons = reasons_forced (clauses ++ learnt ∷ []) (take (slice_index starts level) trail) (take level starts) reasons
-        (reasons_more_clauses clauses (learnt ∷ []) (take (slice_index starts level) trail) (take level starts) reasons (reasons_cut trail places right starts starts_right level level_below clauses reasons searching.has_reasons))
+        (reasons_more_clauses clauses (learnt ∷ []) (take (slice_index starts level) trail) (take level starts) reasons (reasons_taken_back trail starts starts_right level level_below clauses reasons searching.has_reasons))
         (opposite (literal_at trail (last - 1))) asserted_free (length clauses + 1) learnt (IsNumbered-last clauses learnt)
         (has_last_literal trail places right learnt ordered all_false last second latest (omega (arith, after))) others_false
         (omega (arith, asserted_fits.1, same_variables));

@@ -2,6 +2,7 @@ ghost use Rattle.std.specs.Prelude.{◌≡◌, ◌≢◌, ℕ, ◌+◌, ◌<◌,
 ghost use Rattle.clause_db.specs.Log.{literal_lists, results};
 ghost use Rattle.unit_propagation.specs.Quiet.{IsQuiet};
 ghost use Rattle.unit_propagation.specs.Status.{FitsVariables};
+ghost use Rattle.unit_propagation.specs.Watching.{entries, IsWatched};
 ghost use Rattle.sat_search.specs.Learning.{IsSearching};
 ghost use Rattle.sat_search.specs.Found.{IsFound};
 
@@ -9,7 +10,7 @@ use crate::found::Found;
 use crate::learning::{backjump, learn};
 use clause_db::{Clauses, Log, LogLine, Memory, largest_variable};
 use std::alloc::Global;
-use unit_propagation::{Trail, Value, propagate};
+use unit_propagation::{Trail, Value, Watches};
 
 /// The least free variable, or 0.
 fn least_free(trail: &Trail) -> usize
@@ -27,11 +28,19 @@ fn least_free(trail: &Trail) -> usize
 }
 
 /// Makes the least free variable false, and answers whether there was one.
-fn decide(clauses: &Clauses, lines: &[LogLine], trail: &mut Trail) -> Result<bool, Memory>
+fn decide(
+    clauses: &Clauses,
+    lines: &[LogLine],
+    trail: &mut Trail,
+    watches: &Watches,
+) -> Result<bool, Memory>
     requires variables { 0 < length trail.old.places.items }
     requires searching { IsSearching (literal_lists clauses.now.list.items ++ results lines.now) trail.old.literals.items trail.old.starts.items trail.old.reasons.items }
     requires quiet { IsQuiet trail.old.literals.items (literal_lists clauses.now.list.items ++ results lines.now) }
+    requires watched { IsWatched (literal_lists clauses.now.list.items ++ results lines.now) trail.old.literals.items trail.old.starts.items (length trail.old.places.items) watches.now.head watches.now.pairs.items (entries watches.now.lists.items) watches.now.pending.items }
+    requires handled { watches.now.head ≡ length trail.old.literals.items }
     ensures searching { IfOk result (λ _. IsSearching (literal_lists clauses.now.list.items ++ results lines.now) trail.new.literals.items trail.new.starts.items trail.new.reasons.items) }
+    ensures watched { IfOk result (λ _. IsWatched (literal_lists clauses.now.list.items ++ results lines.now) trail.new.literals.items trail.new.starts.items (length trail.new.places.items) watches.now.head watches.now.pairs.items (entries watches.now.lists.items) watches.now.pending.items) }
     ensures longer { IfOk result (λ decided. IsTrue decided → length trail.old.literals.items < length trail.new.literals.items) }
     ensures none_free { IfOk result (λ decided. decided ≡ false → (v : ℕ) → 0 < v → v < length trail.new.places.items → 0 < slice_index trail.new.places.items v) }
     ensures unchanged { IfOk result (λ decided. decided ≡ false → trail.new.literals.items ≡ trail.old.literals.items) }
@@ -97,11 +106,12 @@ fn search_over(
     ensures { IfOk result (IsFound (literal_lists clauses.now.list.items) variables limit) }
 {
     let mut trail = Trail::new(alloc, variables as usize)?;
+    let mut watches = Watches::over(alloc, clauses, variables as usize)?;
     let mut log = Log {
         lines: Vec::new(alloc),
     };
     'steps: loop {
-        match propagate(clauses, &log.lines, &mut trail)? {
+        match watches.propagate(clauses, &log.lines, &mut trail)? {
             Some(conflict) => {
                 let learnt = learn(alloc, clauses, &log.lines, &trail, conflict)?;
                 let latest = learnt.latest;
@@ -113,11 +123,19 @@ fn search_over(
                     push_line(&mut log, learnt.line)?;
                     return Ok(Found::Budget(log));
                 }
-                backjump(clauses, &log.lines, &mut trail, &learnt.line.result, latest)?;
+                backjump(
+                    clauses,
+                    &log.lines,
+                    &mut trail,
+                    &mut watches,
+                    &learnt.line.result,
+                    latest,
+                )?;
                 push_line(&mut log, learnt.line)?;
+                watches.add()?;
             }
             None => {
-                if !decide(clauses, &log.lines, &mut trail)? {
+                if !decide(clauses, &log.lines, &mut trail, &watches)? {
                     let values = assignment_of(alloc, &trail)?;
                     return Ok(Found::Satisfied(values, log.lines.len() as u32));
                 }

@@ -1,8 +1,7 @@
 -- Clauses within a bound, by number, and trails that grow.
-use Rattle.std.proofs.Common.{◌≡◌, inl, inr, ℕ, zero, suc, ℤ, ◌<◌, ◌≤◌, ◌+◌, List, [], ◌∷◌, ◌++◌, length, slice_index_or, sym, ap, ◌∙◌, arith, subst, length-append, append_assoc, map}
+use Rattle.std.proofs.Common.{ℕ, zero, suc, ℤ, ◌<◌, ◌≤◌, ◌+◌, List, [], ◌∷◌, ◌++◌, length, slice_index_or, ap, ◌∙◌, arith, subst, length-append, append_assoc, map}
 use Rattle.std.specs.Prelude.{All}
-use Rattle.std.proofs.lemmas.Bool.{cases_lt}
-use Rattle.std.proofs.lemmas.List.{get_or_default, append-nil}
+use Rattle.std.proofs.lemmas.List.{get_or_default}
 use Rattle.std.proofs.lemmas.Option.{slice_get_within, get_or_from_slice_get}
 use Rattle.clause_db.specs.declared.clause.Clause.{Clause}
 use Rattle.clause_db.specs.Literal.{variable_of, IsOrdered}
@@ -20,22 +19,6 @@ extends_trans a b c (x, e) (y, f) = (x ++ y, f ∙ ap (λ z. z ++ y) e ∙ appen
 
 pub extends_length : (a b : List ℤ) → Extends a b → length a ≤ length b
 extends_length a b (x, e) = rw (e, length-append) (omega arith)
-
--- an extension of the same length is the same
-pub extends_same : (a b : List ℤ) → Extends a b → length b ≡ length a → b ≡ a
-extends_same a b ([], e) h = e ∙ append-nil a
-extends_same a b (y ∷ ys, e) h = absurd (let f = ap length e in let g = length-append a (y ∷ ys) in omega (arith, f, g, h))
-
-pub same_extends : (a : List ℤ) → Extends a a
-same_extends a = ([], sym (append-nil a))
-
--- one clause more has been found quiet
-pub quiet_one_more : (trail : List ℤ) (clauses : List (List ℤ)) (index : ℕ) (clause : List ℤ) → IsNumbered clauses (index + 1) clause → IsQuietClause trail clause → ((k : ℕ) → k < index → IsQuietClause trail (slice_index_or clauses k [])) → (k : ℕ) → k < index + 1 → IsQuietClause trail (slice_index_or clauses k [])
-quiet_one_more trail clauses index clause (j, is, at) quiet before k h =
-    elim (cases_lt k index) [
-      | inl g ↦ before k g
-      | inr g ↦ let e : k ≡ j = omega arith in subst (IsQuietClause trail) (sym (get_or_from_slice_get clauses j clause [] at) ∙ ap (λ i. slice_index_or clauses i []) (sym e)) quiet
-    ]
 
 pub quiet_all : (trail : List ℤ) (clauses : List (List ℤ)) → ((k : ℕ) → k < length clauses → IsQuietClause trail (slice_index_or clauses k [])) → IsQuiet trail clauses
 quiet_all trail clauses each k d h = subst (IsQuietClause trail) (get_or_default clauses k [] d h) (each k h)

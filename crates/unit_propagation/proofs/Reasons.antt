@@ -1,13 +1,14 @@
 -- Reasons stay reasons, as the trail grows and is cut.
-use Rattle.std.proofs.Common.{◌≡◌, ◌≢◌, ◌⊎◌, inl, inr, ℕ, ℤ, ◌<◌, List, [], ◌∷◌, ◌++◌, length, slice_index, set, sym, ap, ◌∙◌, arith, subst, length-append}
+use Rattle.std.proofs.Common.{◌≡◌, ◌≢◌, ◌⊎◌, inl, inr, ℕ, ℤ, pos, ◌<◌, ◌≤◌, List, [], ◌∷◌, ◌++◌, length, slice_index, set, take, get_or-take, length-take, refl, sym, ap, ◌∙◌, arith, subst, length-append}
 use Rattle.std.specs.Prelude.{Contains}
-use Rattle.std.proofs.lemmas.Bool.{cases_lt}
-use Rattle.std.proofs.lemmas.List.{get_or-set_other, get_or-set_same}
+use Rattle.std.proofs.lemmas.Bool.{cases_lt, cases_eq}
+use Rattle.std.proofs.lemmas.List.{get_or-set_other, get_or-set_same, get_or_default}
+use Rattle.std.proofs.lemmas.List.Elements.{Contains-append_left, Contains-append_right}
 use Rattle.clause_db.specs.Literal.{variable_of, opposite}
 use Rattle.clause_db.specs.Numbered.{IsNumbered}
 use Rattle.clause_db.proofs.Ordered.{read_at_place}
 use Rattle.clause_db.proofs.Places.{IsNumbered-append}
-use Rattle.unit_propagation.specs.Places.{literal_at}
+use Rattle.unit_propagation.specs.Places.{literal_at, StartsAreRight}
 use Rattle.unit_propagation.specs.Truth.{IsFree}
 use Rattle.unit_propagation.specs.Quiet.{IsFalseBefore, IsReason, HasReasons}
 use Rattle.unit_propagation.proofs.Trails.{literal_at-push_old, literal_at-push_new}
@@ -67,3 +68,42 @@ module _ (clauses : List (List ℤ)) (trail : List ℤ) (starts reasons : List �
 pub reasons_more_clauses : (clauses more : List (List ℤ)) (trail : List ℤ) (starts reasons : List ℕ) → HasReasons clauses trail starts reasons → HasReasons (clauses ++ more) trail starts reasons
 reasons_more_clauses clauses more trail starts reasons has p h =
     elim (has p h) [ inl w ↦ inl w | inr w ↦ inr (w.0, IsNumbered-append clauses more _ w.0 w.1, w.2) ]
+
+pub starts_mono : (trail : List ℤ) (starts : List ℕ) → StartsAreRight starts (length trail) → (j k : ℕ) → j ≤ k → k < length starts → slice_index starts j ≤ slice_index starts k
+starts_mono trail starts right j k h within = elim (cases_eq j k) [
+  | inl e ↦ let f = ap (slice_index starts) e in omega (arith, f)
+  | inr ne ↦ let f = right.increasing j k (omega (arith, ne)) within in omega (arith, f)
+]
+
+module _ (trail : List ℤ) (starts : List ℕ) (starts_right : StartsAreRight starts (length trail)) (level : ℕ) (in_starts : level < length starts) where
+  -- reasons stay, where decisions are taken back
+  pub reasons_taken_back : (clauses : List (List ℤ)) (reasons : List ℕ) → HasReasons clauses trail starts reasons → HasReasons clauses (take (slice_index starts level) trail) (take level starts) reasons
+  reasons_taken_back clauses reasons has p h =
+      let s : ℕ = slice_index starts level in
+      let low : p < s = let g = length-take s trail in omega (arith, g, h) in
+      let within : p < length trail = let g = length-take s trail in omega (arith, g, h) in
+      let same : literal_at (take s trail) p ≡ literal_at trail p = get_or-take s trail p (pos 0) low in
+      elim (has p within) [
+        | inl w ↦
+            let at : slice_index starts w.0 ≡ p = get_or_default starts w.0 0 p w.1 ∙ w.2 in
+            let before : w.0 < level = elim (cases_lt w.0 level) [ inl g ↦ g | inr g ↦ absurd (let m = starts_mono trail starts starts_right level w.0 g w.1 in omega (arith, m, at, low)) ] in
+            inl (w.0, (let g = length-take level starts in omega (arith, g, before, w.1)), get_or-take level starts w.0 p before ∙ w.2)
+        | inr w ↦ inr (
+          w.0,
+          subst (λ l. IsNumbered clauses (slice_index reasons (variable_of l)) w.0) (sym same) w.1,
+          record {
+            has = subst (Contains w.0) (sym same) w.2.has;
+            others_false = λ m v ne.
+                let f = w.2.others_false m v (λ e. ne (e ∙ sym same)) in
+                (f.0, f.1, (let g = length-take s trail in omega (arith, g, f.1, f.2, low)), get_or-take s trail f.0 (pos 0) (omega (arith, f.1, low)) ∙ f.3);
+          },
+        )
+      ]
+
+-- a decision after the others
+pub reasons_open : (clauses : List (List ℤ)) (trail : List ℤ) (starts reasons : List ℕ) (l : ℤ) → HasReasons clauses trail starts reasons → IsFree trail l → HasReasons clauses (trail ++ l ∷ []) (starts ++ length trail ∷ []) (set reasons (variable_of l) 0)
+reasons_open clauses trail starts reasons l has free =
+    reasons_decided clauses trail (starts ++ length trail ∷ []) reasons more l free 0 (Contains-append_right starts (length trail ∷ []) (length trail) (0, omega arith, refl))
+  where
+    more : HasReasons clauses trail (starts ++ length trail ∷ []) reasons
+    more p h = elim (has p h) [ inl w ↦ inl (Contains-append_left starts (length trail ∷ []) p w) | inr r ↦ inr r ]

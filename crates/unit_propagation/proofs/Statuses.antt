@@ -3,32 +3,17 @@ use Rattle.std.proofs.Common.{◌≡◌, ◌≢◌, inl, inr, ℕ, ℤ, pos, ◌
 use Rattle.std.specs.Prelude.{Contains}
 use Rattle.std.proofs.lemmas.Bool.{cases_lt, cases_eq}
 use Rattle.std.proofs.lemmas.List.{get_or_default}
-use Rattle.clause_db.specs.Literal.{variable_of, opposite, IsOrdered}
+use Rattle.clause_db.specs.Literal.{opposite}
 use Rattle.clause_db.proofs.Ordered.{contains_at, read_at_place}
 use Rattle.unit_propagation.specs.Places.{literal_at}
 use Rattle.unit_propagation.specs.Truth.{IsFree}
-use Rattle.unit_propagation.specs.Quiet.{IsQuietClause, IsFalseClause}
+use Rattle.unit_propagation.specs.Quiet.{IsFalseClause}
 use Rattle.unit_propagation.specs.Status.{IsNext}
-use Rattle.unit_propagation.specs.declared.trail.Value.TheVariants.{True, False, Free}
+use Rattle.unit_propagation.specs.declared.trail.Value.TheVariants.{False, Free}
 
 pub falsified : (trail clause : List ℤ) (place : ℕ) → IsNext trail clause 0 place False → IsFalseClause trail clause
 falsified trail clause place next k d h =
     subst (λ l. Contains trail (opposite l)) (get_or_default clause k (pos 0) d h) (next.passed k (omega arith) (omega (arith, next.stands)))
-
-pub satisfied : (trail clause : List ℤ) (from place : ℕ) → IsNext trail clause from place True → IsQuietClause trail clause
-satisfied trail clause from place next = inl (literal_at clause place, contains_at clause place next.stands.0, next.stands.1)
-
-pub two_free : (trail clause : List ℤ) (p q : ℕ) → IsOrdered clause → IsNext trail clause 0 p Free → IsNext trail clause (p + 1) q Free → IsQuietClause trail clause
-two_free trail clause p q ordered first second =
-    inr (
-      literal_at clause p,
-      literal_at clause q,
-      contains_at clause p first.stands.0,
-      contains_at clause q second.stands.0,
-      (λ e. absurd (let below = ordered p q (pos 0) (omega (arith, second.forward)) second.stands.0 in let same = ap variable_of e in omega (arith, below, same))),
-      first.stands.1,
-      second.stands.1,
-    )
 
 pub forces : (trail clause : List ℤ) (p q : ℕ) → IsNext trail clause 0 p Free → IsNext trail clause (p + 1) q False → Contains clause (literal_at clause p) × IsFree trail (literal_at clause p) × ((m : ℤ) → Contains clause m → m ≢ literal_at clause p → Contains trail (opposite m))
 forces trail clause p q first second = (contains_at clause p first.stands.0, first.stands.1, others) where

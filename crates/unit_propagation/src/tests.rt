@@ -1,4 +1,4 @@
-use crate::{Trail, Value, propagate};
+use crate::{Trail, Value, Watches};
 use clause_db::{Clause, Clauses, is_clause, largest_variable};
 use std::alloc::Global;
 use std::test::Fail;
@@ -30,7 +30,8 @@ fn propagated(alloc: Global, clauses: &Clauses) -> Result<(Trail, Option<u64>), 
         return Err("too many variables")?;
     }
     let mut trail = Trail::new(alloc, variables as usize)?;
-    let found = propagate(clauses, &[], &mut trail)?;
+    let mut watches = Watches::over(alloc, clauses, variables as usize)?;
+    let found = watches.propagate(clauses, &[], &mut trail)?;
     Ok((trail, found))
 }
 
@@ -50,7 +51,7 @@ fn a_clause_that_comes_false(rt: HostRuntime) -> Result<(), Fail> {
     let alloc = rt.alloc();
     let clauses = list(alloc, &[&[1], &[-1, 2], &[-2]])?;
     let (_trail, found) = propagated(alloc, &clauses)?;
-    assert_eq!(rt; found, Some(3));
+    assert_eq!(rt; found, Some(2));
     Ok(())
 }
 

@@ -1,5 +1,5 @@
-use Rattle.std.proofs.Common.{rules, arith, ◌≡◌, ◌+◌, ◌-◌, ◌++◌, ◌<◌, length, ℤ, pos, ◌-ℤ◌, List, ap, sym, ◌∙◌, w64, subst, slice_index, take, length-append}
-use Rattle.std.proofs.lemmas.Int.{to_z-of_z, ints, fits_signed_from_abs}
+use Rattle.std.proofs.Common.{rules, arith, ◌≡◌, ◌+◌, ◌-◌, ◌++◌, ◌<◌, length, ℤ, pos, ◌-ℤ◌, List, ap, sym, ◌∙◌, w64, subst, slice_index, take, min, ℕ, length-append}
+use Rattle.std.proofs.lemmas.Int.{fits_signed_from_abs}
 use Rattle.std.proofs.lemmas.List.{get_or_read, length-map}
 use mir.Val.{SFits, of_z, to_z}
 use Rattle.clause_db.specs.Literal.{variable_of, opposite}
@@ -7,16 +7,13 @@ use Rattle.clause_db.specs.Log.{literal_lists, results}
 use Rattle.clause_db.proofs.Ordered.{variable_of-opposite}
 use Rattle.unit_propagation.specs.Places.{literal_at}
 use Rattle.unit_propagation.specs.Truth.{IsFree}
+use Rattle.unit_propagation.specs.Watching.{entries}
+use Rattle.unit_propagation.proofs.SettleSteps.{watched-push}
+use Rattle.unit_propagation.proofs.Watchings.{watched_cut}
+use Rattle.unit_propagation.proofs.Handled.{zero_minus, negated_read}
 use Rattle.sat_search.proofs.Levels.{last_within}
-use Rattle.sat_search.proofs.Backjump.{asserted_free, asserted_fits, searching_after}
+use Rattle.sat_search.proofs.Backjump.{asserted_free, asserted_fits, searching_after, level_below}
 use Rattle.sat_search.proofs.learning.backjump.Goals as goal
-
-zero_minus : (x : ℤ) → pos 0 -ℤ x ≡ opposite x
-zero_minus x = omega (arith, ints)
-
--- what the code reads of a literal with a minus sign
-negated_read : (x : ℤ) → SFits w64 x → SFits w64 (pos 0 -ℤ x) → to_z w64 (of_z w64 (pos 0 -ℤ to_z w64 (of_z w64 x))) ≡ opposite x
-negated_read x fits fits_minus = ap (λ y. to_z w64 (of_z w64 (pos 0 -ℤ y))) (to_z-of_z w64 x fits) ∙ to_z-of_z w64 (pos 0 -ℤ x) fits_minus ∙ zero_minus x
 
 pub push-requires-clause-positive : goal.push-requires-clause-positive
 push-requires-clause-positive c =
@@ -77,3 +74,15 @@ returns-clause-searching c =
     let number : c.len.result + length c.args.lines.now + 1 ≡ length clauses + 1 = simp (length-append, length-map) (omega (arith, c.len.ensures, c.args.clauses.now.list.ok.0)) in
     let e = c.in_ok-push.ensures in
     rw (e.literals, e.reasons, e.starts, c.cut.ensures.literals, c.cut.ensures.reasons, c.cut.ensures.starts, read, number) (searching_after trail.literals.items trail.places.items trail.places_right trail.starts.items trail.starts_right clauses trail.reasons.items c.requires.searching c.args.learnt.now.literals.items c.args.learnt.now.ordered c.requires.all_false c.args.latest.last c.args.latest.second c.requires.latest c.requires.decided c.requires.after c.requires.before c.level_after-level.result c.level_after-level.ensures trail.same_variables)
+
+pub returns-clause-watched : goal.returns-clause-watched
+returns-clause-watched c =
+    let trail = c.args.trail.now in
+    let w = c.args.watches.now in
+    let clauses : List (List ℤ) = literal_lists c.args.clauses.now.list.items ++ results c.args.lines.now in
+    let n : ℕ = length trail.places.items in
+    let level : ℕ = c.level_after-level.result in
+    let e = c.in_ok-push.ensures in
+    let low = level_below trail.literals.items trail.places.items trail.places_right trail.starts.items trail.starts_right clauses trail.reasons.items c.requires.searching c.args.learnt.now.literals.items c.args.learnt.now.ordered c.requires.all_false c.args.latest.last c.args.latest.second c.requires.latest c.requires.decided c.requires.after c.requires.before c.level_after-level.result c.level_after-level.ensures in
+    let r = c.rewind.ensures in
+    rw (c.push.ensures.variables, c.cut.ensures.variables, r.head, r.pairs, r.lists, r.pending, e.literals, e.starts, c.cut.ensures.literals, c.cut.ensures.starts) (watched-push clauses (take (slice_index trail.starts.items level) trail.literals.items) (take level trail.starts.items) n (min w.head (length (take (slice_index trail.starts.items level) trail.literals.items))) w.pairs.items (entries w.lists.items) w.pending.items (watched_cut trail.literals.items trail.starts.items trail.starts_right level low clauses n w.head w.pairs.items (entries w.lists.items) w.pending.items c.requires.watched) _)

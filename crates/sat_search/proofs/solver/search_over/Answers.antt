@@ -1,8 +1,13 @@
-use Rattle.std.proofs.Common.{arith, ◌≡◌, ◌++◌, length, ℕ, ℤ, List, ap, sym, ◌∙◌, subst, refl, ◌<◌, ◌+◌, ◌∷◌, [], inl, inr, slice_index, length-append}
+use Rattle.std.proofs.Common.{arith, ◌≡◌, ◌++◌, length, ℕ, ℤ, List, ap, sym, ◌∙◌, subst, refl, ◌<◌, ◌+◌, ◌∷◌, [], inl, inr, slice_index, length-append, Option, None, Vec}
+use Rattle.std.specs.Global.{Global}
+use Rattle.unit_propagation.proofs.Tables.{literal_lists_length}
 use Rattle.clause_db.specs.declared.clause.LogLine.{LogLine}
 use Rattle.clause_db.specs.Log.{literal_lists, results, IsDerived}
 use Rattle.unit_propagation.specs.Quiet.{HasReasons, IsQuiet, IsQuietClause}
 use Rattle.unit_propagation.specs.Status.{FitsVariables, Extends, IsOutcome}
+use Rattle.unit_propagation.specs.Watching.{entries, IsWatched}
+use Rattle.unit_propagation.specs.declared.watches.Watched.{Watched}
+use Rattle.unit_propagation.proofs.Watchings.{watched_add, watched_more}
 use Rattle.sat_search.specs.Learning.{IsSearching}
 use Rattle.sat_search.proofs.Levels.{empty_at_zero, fits_false}
 use Rattle.std.proofs.lemmas.Bool.{cases_lt}
@@ -35,6 +40,31 @@ propagate-requires-clause-fits c = subst (λ (ls : List LogLine). FitsVariables 
 pub propagate-requires-clause-reasons : goal.propagate-requires-clause-reasons
 propagate-requires-clause-reasons c = subst (λ (ls : List LogLine). HasReasons (literal_lists c.args.clauses.now.list.items ++ results ls) c.steps.trail.literals.items c.steps.trail.starts.items c.steps.trail.reasons.items) (sym c.deref.ensures.value) c.steps.invariant.searching.has_reasons
 
+pub propagate-requires-clause-watched : goal.propagate-requires-clause-watched
+propagate-requires-clause-watched c =
+    let trail = c.steps.trail in
+    let w = c.steps.watches in
+    subst (λ (ls : List LogLine). IsWatched (literal_lists c.args.clauses.now.list.items ++ results ls) trail.literals.items trail.starts.items (length trail.places.items) w.head w.pairs.items (entries w.lists.items) w.pending.items) (sym c.deref.ensures.value) c.steps.invariant.watched
+
+pub propagate-requires-clause-all_known : goal.propagate-requires-clause-all_known
+propagate-requires-clause-all_known c =
+    subst (λ (ls : List LogLine). length c.steps.watches.pairs.items ≡ length (literal_lists c.args.clauses.now.list.items ++ results ls)) (sym c.deref.ensures.value) c.steps.invariant.known
+
+pub backjump-requires-clause-watched : goal.backjump-requires-clause-watched
+backjump-requires-clause-watched c =
+    let trail = c.propagate.new.trail in
+    let w = c.propagate.new.self in
+    subst (λ (ls : List LogLine). IsWatched (literal_lists c.args.clauses.now.list.items ++ results ls) trail.literals.items trail.starts.items (length trail.places.items) w.head w.pairs.items (entries w.lists.items) w.pending.items) (c.deref.ensures.value ∙ sym c.deref-in-Some-2.ensures.value) c.in_ok-conflict.ensures.watched
+
+pub decide-requires-clause-watched : goal.decide-requires-clause-watched
+decide-requires-clause-watched c =
+    let trail = c.propagate.new.trail in
+    let w = c.propagate.new.self in
+    subst (λ (ls : List LogLine). IsWatched (literal_lists c.args.clauses.now.list.items ++ results ls) trail.literals.items trail.starts.items (length trail.places.items) w.head w.pairs.items (entries w.lists.items) w.pending.items) (c.deref.ensures.value ∙ sym c.deref-in-None.ensures.value) c.in_ok-conflict.ensures.watched
+
+pub decide-requires-clause-handled : goal.decide-requires-clause-handled
+decide-requires-clause-handled c = c.in_ok-conflict.ensures.handled c.in-None.is
+
 pub learn-requires-clause-searching : goal.learn-requires-clause-searching
 learn-requires-clause-searching c =
     let e = c.in_ok-conflict.ensures in
@@ -55,6 +85,7 @@ steps-init c =
     let list : List (List ℤ) = literal_lists c.args.clauses.now.list.items in
     let n : ℕ = length c.in_ok-trail.trail.places.items in
     let none = c.new-2.ensures.items in
+    let w = c.in_ok-watches.watches in
     let t = c.in_ok-trail.ensures in
     record {
       variables = t.variables;
@@ -64,6 +95,8 @@ steps-init c =
         quiet_before = λ k h. absurd (let e = ap length t.no_decision in omega (arith, e, h));
         started = λ k h. absurd (let e = ap length t.no_decision in omega (arith, e, h));
       };
+      watched = rw (t.empty, t.no_decision, t.variables) (subst (λ (ls : List LogLine). IsWatched (list ++ results ls) [] [] (c.args.variables + 1) w.head w.pairs.items (entries w.lists.items) w.pending.items) (sym none) (subst (λ cs. IsWatched cs [] [] (c.args.variables + 1) w.head w.pairs.items (entries w.lists.items) w.pending.items) (sym (append-nil list)) c.in_ok-watches.ensures.watched));
+      known = subst (λ (ls : List LogLine). length w.pairs.items ≡ length (list ++ results ls)) (sym none) (subst (λ cs. length w.pairs.items ≡ length cs) (sym (append-nil list)) (let long = literal_lists_length c.args.clauses.now.list.items in omega (arith, long, c.in_ok-watches.ensures.known)));
       log = λ k d h. absurd (let e = ap length none in omega (arith, e, h));
       strengthens = λ k d h. absurd (let e = ap length none in omega (arith, e, h));
       below = (let e = ap length none in omega (arith, e, c.requires.limit));
@@ -104,8 +137,8 @@ returns-then-len-limit c =
       not_refuted = not_refuted list (results lines) trail.literals.items trail.places.items trail.places_right (slice_index trail.starts.items 0) (searching.quiet_before 0 some);
     }
 
-pub steps-smaller-in_ok-push_line-in-Some-3 : goal.steps-smaller-in_ok-push_line-in-Some-3
-steps-smaller-in_ok-push_line-in-Some-3 c =
+pub steps-smaller-in_ok-add-in-Some : goal.steps-smaller-in_ok-add-in-Some
+steps-smaller-in_ok-add-in-Some c =
     let lines : List LogLine = c.steps.log.lines.items in
     let trail = c.backjump.new.trail in
     let n : ℕ = length c.steps.trail.places.items in
@@ -114,8 +147,8 @@ steps-smaller-in_ok-push_line-in-Some-3 c =
     let fits = trail_fits c.steps.trail.literals.items c.steps.trail.places.items c.steps.trail.places_right in
     rw (same, more) (fewer_conflicts_left c.args.limit (length lines) n (length c.steps.trail.literals.items) (length trail.literals.items) c.steps.invariant.below fits)
 
-pub steps-preserved-in_ok-push_line-in-Some-3 : goal.steps-preserved-in_ok-push_line-in-Some-3
-steps-preserved-in_ok-push_line-in-Some-3 c =
+pub steps-preserved-in_ok-add-in-Some : goal.steps-preserved-in_ok-add-in-Some
+steps-preserved-in_ok-add-in-Some c =
     let list : List (List ℤ) = literal_lists c.args.clauses.now.list.items in
     let lines : List LogLine = c.steps.log.lines.items in
     let i = c.steps.invariant in
@@ -134,10 +167,22 @@ steps-preserved-in_ok-push_line-in-Some-3 c =
     let strengthens = subst (λ (ls : List LogLine). StrengthensPropagation (list ++ results ls) learnt.line.result.literals.items) c.deref-in-Some.ensures.value (e.strengthens some) in
     let below = fits_false trail.literals.items trail.places.items trail.places_right learnt.line.result.literals.items e.all_false in
     let fits = fits_push (length after.places.items) (list ++ results lines) learnt.line.result.literals.items (subst (λ n. FitsVariables n (list ++ results lines)) (sym same) i.fits) learnt.line.result.ordered (λ k d h. ((learnt.line.result.in_range k d h).0, (let b = below k d h in omega (arith, b, c.backjump.ensures.variables)))) in
+    let w = c.backjump.new.watches in
+    let a = c.in_ok-add-in-Some.ensures in
+    let all : List (List ℤ) = (list ++ results lines) ++ learnt.line.result.literals.items ∷ [] in
+    let pairs_same = ap (λ (v : Vec (Option Watched) Global). length v.items) c.backjump.ensures.known in
+    let all_long = length-append (list ++ results lines) (learnt.line.result.literals.items ∷ []) in
+    let old_known : length w.pairs.items ≡ length (list ++ results lines) = omega (arith, pairs_same, c.propagate.ensures.known, i.known) in
+    let low : length w.pairs.items < length all = omega (arith, old_known, all_long) in
+    let jumped : IsWatched (list ++ results lines) after.literals.items after.starts.items (length after.places.items) w.head w.pairs.items (entries w.lists.items) w.pending.items = subst (λ (ls : List LogLine). IsWatched (list ++ results ls) after.literals.items after.starts.items (length after.places.items) w.head w.pairs.items (entries w.lists.items) w.pending.items) c.deref-in-Some-2.ensures.value c.in_ok-backjump-in-Some.ensures.watched in
+    let watched : IsWatched all after.literals.items after.starts.items (length after.places.items) c.add.new.self.head c.add.new.self.pairs.items (entries c.add.new.self.lists.items) c.add.new.self.pending.items = rw (a.pairs, a.pending, a.lists, a.head) (watched_add all after.literals.items after.starts.items (length after.places.items) w.head w.pairs.items (entries w.lists.items) w.pending.items low (watched_more (list ++ results lines) (learnt.line.result.literals.items ∷ []) after.literals.items after.starts.items (length after.places.items) w.head w.pairs.items (entries w.lists.items) w.pending.items jumped)) in
+    let known : length c.add.new.self.pairs.items ≡ length all = (let e2 = ap length a.pairs in let g2 = length-append w.pairs.items (None ∷ []) in omega (arith, e2, g2, old_known, all_long)) in
     rw items record {
       variables = same ∙ i.variables;
       fits = subst (FitsVariables (length after.places.items)) (sym (results_push lines learnt.line list)) fits;
       searching = subst (λ cs. IsSearching cs after.literals.items after.starts.items after.reasons.items) (sym (results_push lines learnt.line list)) (subst (λ (ls : List LogLine). IsSearching ((list ++ results ls) ++ learnt.line.result.literals.items ∷ []) after.literals.items after.starts.items after.reasons.items) c.deref-in-Some-2.ensures.value c.in_ok-backjump-in-Some.ensures.searching);
+      watched = subst (λ cs. IsWatched cs after.literals.items after.starts.items (length after.places.items) c.add.new.self.head c.add.new.self.pairs.items (entries c.add.new.self.lists.items) c.add.new.self.pending.items) (sym (results_push lines learnt.line list)) watched;
+      known = subst (λ cs. length c.add.new.self.pairs.items ≡ length cs) (sym (results_push lines learnt.line list)) known;
       log = each_push IsDerived list lines learnt.line i.log derived;
       strengthens = each_push (λ cs line. StrengthensPropagation cs line.result.literals.items) list lines learnt.line i.strengthens strengthens;
       below = (let g = length-append lines (learnt.line ∷ []) in omega (arith, g, i.below, c.len.ensures, c.if-len-limit.false, c.steps.log.lines.ok.0));
@@ -177,11 +222,14 @@ steps-preserved c =
     let list : List (List ℤ) = literal_lists c.args.clauses.now.list.items in
     let i = c.steps.invariant in
     let trail = c.decide.new.trail in
+    let w = c.propagate.new.self in
     let same : length trail.places.items ≡ length c.steps.trail.places.items = c.decide.ensures.variables ∙ c.propagate.ensures.variables in
     record {
       variables = same ∙ i.variables;
       fits = subst (λ n. FitsVariables n (list ++ results c.steps.log.lines.items)) (sym same) i.fits;
       searching = subst (λ (ls : List LogLine). IsSearching (list ++ results ls) trail.literals.items trail.starts.items trail.reasons.items) c.deref-in-None.ensures.value c.in_ok-decide-in-None.ensures.searching;
+      watched = subst (λ (ls : List LogLine). IsWatched (list ++ results ls) trail.literals.items trail.starts.items (length trail.places.items) w.head w.pairs.items (entries w.lists.items) w.pending.items) c.deref-in-None.ensures.value c.in_ok-decide-in-None.ensures.watched;
+      known = c.propagate.ensures.known ∙ i.known;
       log = i.log;
       strengthens = i.strengthens;
       below = i.below;
