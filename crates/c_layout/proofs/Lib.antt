@@ -1,0 +1,6 @@
+pub mod Lists
+pub mod Measures
+pub mod Needs
+pub mod Walks
+pub mod Steps
+pub mod Ends
