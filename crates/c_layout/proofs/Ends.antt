@@ -1,6 +1,6 @@
 -- Where the walk begins and ends, and what it tells of the type.
-use Rattle.std.proofs.Common.{◌≡◌, ◌≤◌, ◌<◌, ℕ, zero, suc, List, [], ◌∷◌, ◌++◌, length, replicate, Option, Some, None, Result, Ok, Err, refl, ap, sym, ◌∙◌, subst, arith}
-use Rattle.std.specs.Prelude.{slice_get, option_map, IsErrAnd, IfErr}
+use Rattle.std.proofs.Common.{◌≡◌, ◌<◌, ℕ, zero, suc, List, [], ◌∷◌, ◌++◌, length, replicate, Option, Some, Result, Ok, Err, refl, ap, sym, ◌∙◌, subst, arith}
+use Rattle.std.specs.Prelude.{option_map, IsErrAnd, IfErr}
 use Rattle.rvt_tree.specs.declared.types.CType.{CType}
 use Rattle.rvt_tree.specs.declared.programs.Structs.{Structs}
 use Rattle.c_types.specs.Layout.{plan_of}
@@ -10,8 +10,8 @@ use Rattle.c_layout.specs.declared.sizes.Frame.{Frame}
 use Rattle.c_layout.specs.declared.faults.TypeFault.{TypeFault}
 use Rattle.c_layout.specs.declared.faults.TypeFault.TheVariants.{Incomplete, TooManyCells, Memory}
 use Rattle.c_layout.specs.Causes.{IsRefusal}
-use Rattle.c_layout.specs.Sizes.{At, Agrees, size_with, size_of_struct, size_of_plan, sized_count, struct_in, IsWalk, IsHopeless, IsStuck}
-use Rattle.c_layout.proofs.Lists.{within, exists_at, same_at, push_cases}
+use Rattle.c_layout.specs.Sizes.{At, Agrees, size_with, size_of_struct, size_of_plan, struct_in, IsWalk, IsHopeless, IsStuck}
+use Rattle.c_layout.proofs.Lists.{within, exists_at, same_at}
 use Rattle.c_layout.proofs.Measures.{type_size, no_plan}
 use Rattle.c_layout.proofs.Needs.{type_needs}
 use Rattle.c_layout.proofs.Walks.{few_sized}

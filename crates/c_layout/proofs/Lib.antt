@@ -4,3 +4,5 @@ pub mod Needs
 pub mod Walks
 pub mod Steps
 pub mod Ends
+pub mod Sequences
+pub mod Listings

@@ -1,6 +1,5 @@
 -- Where elements stand in lists that grow, shrink and change.
-use Rattle.std.proofs.Common.{◌≡◌, ◌⊎◌, inl, inr, ℕ, zero, suc, ◌<◌, ◌+◌, List, [], ◌∷◌, ◌++◌, length, Some, set, take, drop, refl, ap, ◌∙◌, arith, subst}
-use Rattle.std.specs.Prelude.{slice_get}
+use Rattle.std.proofs.Common.{◌≡◌, ◌⊎◌, inl, inr, ℕ, zero, suc, ◌<◌, ◌+◌, List, [], ◌∷◌, ◌++◌, length, set, take, refl, arith, subst}
 use Rattle.c_layout.specs.Sizes.{At}
 
 pub within : {X : Type 0} (xs : List X) (k : ℕ) (x : X) → At xs k x → k < length xs

@@ -1,6 +1,6 @@
 -- One step of the walk: what the last frame is, and what it becomes.
-use Rattle.std.proofs.Common.{◌≡◌, inl, inr, ◌⊎◌, ◌*◌, ◌≤◌, ◌<◌, ℕ, zero, suc, ◌+◌, ◌-◌, List, [], ◌∷◌, ◌++◌, length, map, take, Option, Some, None, get_or, refl, ap, sym, ◌∙◌, subst, arith, length-set, length-take, Bool, true}
-use Rattle.std.specs.Prelude.{slice_get, slice_set, option_map, IfSome, IfNone}
+use Rattle.std.proofs.Common.{◌≡◌, inl, inr, ◌≤◌, ◌<◌, ℕ, zero, suc, ◌-◌, List, [], ◌∷◌, ◌++◌, length, map, take, Option, Some, None, get_or, refl, ap, sym, ◌∙◌, subst, arith, length-set, length-take, true}
+use Rattle.std.specs.Prelude.{slice_set, option_map, IfSome, IfNone}
 use Rattle.std.proofs.lemmas.Option.{slice_get_read, slice_get-map}
 use Rattle.std.proofs.lemmas.List.{length-map}
 use Rattle.rvt_tree.specs.declared.types.CType.{CType}
@@ -11,7 +11,7 @@ use Rattle.c_layout.specs.declared.sizes.Mark.TheVariants.{Open, Sized}
 use Rattle.c_layout.specs.declared.sizes.Frame.{Frame}
 use Rattle.c_layout.specs.declared.faults.TypeFault.{TypeFault}
 use Rattle.c_layout.specs.Sizes.{At, Agrees, size_of_struct, sized_count, types_of, Needs, counted, numbers, struct_in, IsCounting, IsWalk, LastNeeds, LastIsCounted, SameFirst, IsHopeless, IsStuck, size_in_order, steps_left}
-use Rattle.c_layout.proofs.Lists.{within, same_at, exists_at, set_new, set_cases, take_at, push_cases}
+use Rattle.c_layout.proofs.Lists.{within, same_at, set_cases, take_at, push_cases}
 use Rattle.c_layout.proofs.Needs.{field_needs}
 use Rattle.c_layout.proofs.Walks.{counted_on, counted_size, left, closed_new}
 
@@ -68,9 +68,9 @@ module _ (structs : Structs) (marks : List Mark) (frames : List Frame) (w : IsWa
     counts_after : (depth : ℕ) → sized_count marks ≤ depth →
         counted (size_of_struct structs depth) after (types_of definition.fields) ≡ size_in_order (size_of_struct structs depth) (types_of definition.fields)
     counts_after depth le =
-      let agrees : Agrees seen (size_of_struct structs depth) = subst (λ ms. Agrees ms (size_of_struct structs depth)) (sym same_marks) (w.sized depth le) in
-      subst (λ fs. counted (size_of_struct structs depth) after (types_of fs) ≡ counted (size_of_struct structs depth) before (types_of fs)) same_fields (counts (size_of_struct structs depth) agrees)
-      ∙ subst (λ (d : StructDef). counted (size_of_struct structs depth) before (types_of d.fields) ≡ size_in_order (size_of_struct structs depth) (types_of d.fields)) is_definition (last_counts.counts depth le)
+        let agrees : Agrees seen (size_of_struct structs depth) = subst (λ ms. Agrees ms (size_of_struct structs depth)) (sym same_marks) (w.sized depth le) in
+        subst (λ fs. counted (size_of_struct structs depth) after (types_of fs) ≡ counted (size_of_struct structs depth) before (types_of fs)) same_fields (counts (size_of_struct structs depth) agrees)
+        ∙ subst (λ (d : StructDef). counted (size_of_struct structs depth) before (types_of d.fields) ≡ size_in_order (size_of_struct structs depth) (types_of d.fields)) is_definition (last_counts.counts depth le)
 
     abbrev after_counts : IsCounting structs marks after
     after_counts = record {
@@ -90,18 +90,19 @@ module _ (structs : Structs) (marks : List Mark) (frames : List Frame) (w : IsWa
     -- the last frame is the one that has counted
     last_is : (place : ℕ) (frame : Frame) → At (slice_set frames (size - 1) after) place frame → suc place ≡ length (slice_set frames (size - 1) after) → frame ≡ after
     last_is place frame h e = elim (set_cases frames (size - 1) after place frame h) [
-      inl a ↦ a.1
-      | inr a ↦ absurd (a.0 (let l = length-set frames (size - 1) after in omega (arith, e, l, is_size, some))) ]
+      | inl a ↦ a.1
+      | inr a ↦ absurd (a.0 (let l = length-set frames (size - 1) after in omega (arith, e, l, is_size, some)))
+    ]
 
     pub needed_after : (number : ℕ) → (place : ℕ) × (ty : CType) × At (types_of fields) place ty × (struct_in ty ≡ Some number) → LastNeeds structs (slice_set frames (size - 1) after) number
     needed_after number wants place frame h e =
-      let needs : Needs structs before.number number = field_needs structs before.number number definition wants.0 wants.1 definition_there (subst (λ fs. At (types_of fs) wants.0 wants.1) same_fields wants.2) wants.3 in
-      subst (λ n. Needs structs n number) (sym same ∙ ap (λ (f : Frame). f.number) (sym (last_is place frame h e))) needs
+        let needs : Needs structs before.number number = field_needs structs before.number number definition wants.0 wants.1 definition_there (subst (λ fs. At (types_of fs) wants.0 wants.1) same_fields wants.2) wants.3 in
+        subst (λ n. Needs structs n number) (sym same ∙ ap (λ (f : Frame). f.number) (sym (last_is place frame h e))) needs
 
     pub counted_after : length fields ≤ after.next → LastIsCounted structs marks (slice_set frames (size - 1) after)
     counted_after all place frame h e depth le =
-      subst (λ (f : Frame). size_of_struct structs (suc depth) f.number ≡ Some f.size) (sym (last_is place frame h e))
-      (counted_size structs marks after after_counts (subst (λ (fs : List (List ℕ × CType)). length fs ≤ after.next) same_fields all) depth le)
+        subst (λ (f : Frame). size_of_struct structs (suc depth) f.number ≡ Some f.size) (sym (last_is place frame h e))
+        (counted_size structs marks after after_counts (subst (λ (fs : List (List ℕ × CType)). length fs ≤ after.next) same_fields all) depth le)
 
 pub if_some : {T : Type 0} (P Q : T → Type 0) → ((x : T) → P x → Q x) → (o : Option T) → IfSome o P → IfSome o Q
 if_some P Q f None h = h
@@ -129,16 +130,17 @@ module _ (structs : Structs) (marks : List Mark) (frames : List Frame) (w : IsWa
 
   pub ended_less : steps_left (slice_set marks frame.number (Sized frame.size)) (take (size - 1) frames) < steps_left marks frames
   ended_less =
-    let n = closed_new marks frame.number frame.size (w.is_open (size - 1) frame ended_at) in
-    let l = length-take (size - 1) frames in
-    omega (arith, n, l, is_size, some)
+      let n = closed_new marks frame.number frame.size (w.is_open (size - 1) frame ended_at) in
+      let l = length-take (size - 1) frames in
+      omega (arith, n, l, is_size, some)
 
 pub pushed_first : (before frames after : List Frame) (frame : Frame) → 0 < length before → numbers frames ≡ numbers before → after ≡ frames ++ frame ∷ [] → SameFirst before after
 pushed_first before frames after frame some same is f h =
     let l = same_length before frames same in
     elim (push_cases frames frame 0 f (subst (λ fs. At fs 0 f) is h)) [
-      inl a ↦ same_first before frames same f a
-      | inr e ↦ absurd (omega (arith, e.0, l, some)) ]
+      | inl a ↦ same_first before frames same f a
+      | inr e ↦ absurd (omega (arith, e.0, l, some))
+    ]
 
 pub taken_first : (before frames after : List Frame) (n : ℕ) → numbers frames ≡ numbers before → after ≡ take n frames → SameFirst before after
 taken_first before frames after n same is f h = same_first before frames same f (take_at n frames 0 f (subst (λ fs. At fs 0 f) is h)).1

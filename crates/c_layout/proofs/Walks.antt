@@ -1,9 +1,9 @@
 -- A walk through the structs: what entering a struct, counting its fields and leaving it keep.
-use Rattle.std.proofs.Common.{◌≡◌, ◌⊎◌, inl, inr, ◌≤◌, ◌<◌, ℕ, zero, suc, ◌+◌, ◌*◌, ◌-◌, min, List, [], ◌∷◌, ◌++◌, map, length, drop, take, Bool, true, false, Option, Some, None, refl, ap, sym, ◌∙◌, subst, arith, length-append, length-set}
+use Rattle.std.proofs.Common.{◌≡◌, ◌⊎◌, inl, inr, ◌≤◌, ◌<◌, ℕ, zero, suc, ◌+◌, List, [], ◌∷◌, ◌++◌, length, drop, take, true, Option, Some, None, refl, ap, sym, ◌∙◌, subst, arith, length-set}
 use Rattle.std.proofs.lemmas.List.{length-map}
 use Rattle.std.proofs.lemmas.Option.{slice_get_read, slice_get-map}
 use Rattle.std.proofs.Common.{get_or}
-use Rattle.std.specs.Prelude.{option_map, option_and_then, slice_get, slice_set, if◌then◌else◌}
+use Rattle.std.specs.Prelude.{option_map, option_and_then, slice_set}
 use Rattle.rvt_tree.specs.declared.types.CType.{CType}
 use Rattle.rvt_tree.specs.declared.programs.StructDef.{StructDef}
 use Rattle.rvt_tree.specs.declared.programs.Structs.{Structs}
@@ -12,7 +12,7 @@ use Rattle.c_layout.specs.declared.sizes.Mark.TheVariants.{New, Open, Sized}
 use Rattle.c_layout.specs.declared.sizes.Frame.{Frame}
 use Rattle.c_layout.specs.declared.faults.TypeFault.{TypeFault}
 use Rattle.c_layout.specs.declared.faults.TypeFault.TheVariants.{Incomplete, TooManyCells, Memory}
-use Rattle.c_layout.specs.Sizes.{At, Agrees, limited, size_with, size_in_order, size_of_struct, sized_count, new_count, types_of, Needs, counted, IsCounting, IsWalk, LastNeeds, NewWasNew, IsHopeless, IsStuck}
+use Rattle.c_layout.specs.Sizes.{At, Agrees, limited, size_with, size_in_order, size_of_struct, sized_count, new_count, types_of, Needs, IsCounting, IsWalk, LastNeeds, NewWasNew, IsHopeless, IsStuck}
 use Rattle.c_layout.proofs.Lists.{within, same_at, exists_at, append_keeps, push_new, push_cases, take_at, take_keeps, set_new, set_keeps, set_cases, set_either}
 use Rattle.c_layout.proofs.Needs.{complete_size}
 
@@ -148,32 +148,38 @@ module _ (structs : Structs) (marks : List Mark) (frames : List Frame) (w : IsWa
 
   entered_open : (place : ℕ) (frame : Frame) → At (frames ++ first_frame ∷ []) place frame → At (slice_set marks number Open) frame.number Open
   entered_open place frame h = elim (push_cases frames first_frame place frame h) [
-    inl a ↦ opened_at frame.number (w.is_open place frame a)
-    | inr e ↦ subst (λ (f : Frame). At (slice_set marks number Open) f.number Open) (sym e.1) (set_new marks number Open New new) ]
+    | inl a ↦ opened_at frame.number (w.is_open place frame a)
+    | inr e ↦ subst (λ (f : Frame). At (slice_set marks number Open) f.number Open) (sym e.1) (set_new marks number Open New new)
+  ]
 
   entered_framed : (n : ℕ) → At (slice_set marks number Open) n Open → (place : ℕ) × (frame : Frame) × At (frames ++ first_frame ∷ []) place frame × (frame.number ≡ n)
   entered_framed n h = elim (set_cases marks number Open n Open h) [
-    inl e ↦ (length frames, first_frame, push_new frames first_frame, sym e.0)
-    | inr a ↦ let r = w.framed n a.1 in (r.0, r.1, append_keeps frames (first_frame ∷ []) r.0 r.1 r.2, r.3) ]
+    | inl e ↦ (length frames, first_frame, push_new frames first_frame, sym e.0)
+    | inr a ↦ let r = w.framed n a.1 in (r.0, r.1, append_keeps frames (first_frame ∷ []) r.0 r.1 r.2, r.3)
+  ]
 
   entered_once : (i j : ℕ) (f g : Frame) → At (frames ++ first_frame ∷ []) i f → At (frames ++ first_frame ∷ []) j g → f.number ≡ g.number → i ≡ j
   entered_once i j f g hf hg e = elim (push_cases frames first_frame i f hf) [
-    inl a ↦ elim (push_cases frames first_frame j g hg) [
-      inl b ↦ w.once i j f g a b e
-      | inr b ↦ absurd (apart f i a (e ∙ ap (λ (x : Frame). x.number) b.1)) ]
+    | inl a ↦ elim (push_cases frames first_frame j g hg) [
+      | inl b ↦ w.once i j f g a b e
+      | inr b ↦ absurd (apart f i a (e ∙ ap (λ (x : Frame). x.number) b.1))
+    ]
     | inr a ↦ elim (push_cases frames first_frame j g hg) [
-      inl b ↦ absurd (apart g j b (sym e ∙ ap (λ (x : Frame). x.number) a.1))
-      | inr b ↦ a.0 ∙ sym b.0 ] ]
+      | inl b ↦ absurd (apart g j b (sym e ∙ ap (λ (x : Frame). x.number) a.1))
+      | inr b ↦ a.0 ∙ sym b.0
+    ]
+  ]
 
   entered_sized : (depth : ℕ) → sized_count (slice_set marks number Open) ≤ depth → Agrees (slice_set marks number Open) (size_of_struct structs depth)
   entered_sized depth le n size h = elim (set_cases marks number Open n (Sized size) h) [
-    inl e ↦ absurd (not_sized size (sym e.1))
-    | inr a ↦ w.sized depth (subst (λ m. m ≤ depth) (opened_sized marks number new) le) n size a.1 ]
+    | inl e ↦ absurd (not_sized size (sym e.1))
+    | inr a ↦ w.sized depth (subst (λ m. m ≤ depth) (opened_sized marks number new) le) n size a.1
+  ]
 
   entered_counting : (definition : StructDef) → At structs.list number definition → definition.complete ≡ true →
       (place : ℕ) (frame : Frame) → At (frames ++ first_frame ∷ []) place frame → IsCounting structs (slice_set marks number Open) frame
   entered_counting definition there complete place frame h = elim (push_cases frames first_frame place frame h) [
-    inl a ↦ let c = w.counting place frame a in record {
+    | inl a ↦ let c = w.counting place frame a in record {
       definition = c.definition;
       there = c.there;
       complete = c.complete;
@@ -186,16 +192,20 @@ module _ (structs : Structs) (marks : List Mark) (frames : List Frame) (w : IsWa
       complete = complete;
       few = omega arith;
       counts = λ depth le. none_counted (size_of_struct structs depth) (types_of definition.fields);
-    }) ]
+    })
+  ]
 
   entered_nested : LastNeeds structs frames number → (place : ℕ) (outer inner : Frame) → At (frames ++ first_frame ∷ []) place outer → At (frames ++ first_frame ∷ []) (suc place) inner → Needs structs outer.number inner.number
   entered_nested last place outer inner ho hi = elim (push_cases frames first_frame (suc place) inner hi) [
-    inl b ↦ elim (push_cases frames first_frame place outer ho) [
-      inl a ↦ w.nested place outer inner a b
-      | inr e ↦ absurd (let l = within frames (suc place) inner b in omega (arith, l, e.0)) ]
+    | inl b ↦ elim (push_cases frames first_frame place outer ho) [
+      | inl a ↦ w.nested place outer inner a b
+      | inr e ↦ absurd (let l = within frames (suc place) inner b in omega (arith, l, e.0))
+    ]
     | inr b ↦ elim (push_cases frames first_frame place outer ho) [
-      inl a ↦ subst (λ (f : Frame). Needs structs outer.number f.number) (sym b.1) (last place outer a b.0)
-      | inr e ↦ absurd (omega (arith, e.0, b.0)) ] ]
+      | inl a ↦ subst (λ (f : Frame). Needs structs outer.number f.number) (sym b.1) (last place outer a b.0)
+      | inr e ↦ absurd (omega (arith, e.0, b.0))
+    ]
+  ]
 
   pub entered : (definition : StructDef) → At structs.list number definition → definition.complete ≡ true → LastNeeds structs frames number →
       IsWalk structs (slice_set marks number Open) (frames ++ first_frame ∷ [])
@@ -211,38 +221,42 @@ module _ (structs : Structs) (marks : List Mark) (frames : List Frame) (w : IsWa
 
   pub entered_seen : NewWasNew marks (slice_set marks number Open)
   entered_seen n h = elim (set_cases marks number Open n New h) [
-    inl e ↦ absurd (new_or_not e.1)
-    | inr a ↦ a.1 ]
+    | inl e ↦ absurd (new_or_not e.1)
+    | inr a ↦ a.1
+  ]
 
 -- ---- fields are counted
 
 module _ (structs : Structs) (marks : List Mark) (frames : List Frame) (w : IsWalk structs marks frames) (place : ℕ) (before after : Frame) (there : At frames place before) (same : after.number ≡ before.number) where
   old_at : (k : ℕ) (frame : Frame) → At (slice_set frames place after) k frame → (old : Frame) × At frames k old × (frame.number ≡ old.number)
   old_at k frame h = elim (set_cases frames place after k frame h) [
-    inl e ↦ (before, subst (λ n. At frames n before) (sym e.0) there, ap (λ (f : Frame). f.number) e.1 ∙ same)
-    | inr a ↦ (frame, a.1, refl) ]
+    | inl e ↦ (before, subst (λ n. At frames n before) (sym e.0) there, ap (λ (f : Frame). f.number) e.1 ∙ same)
+    | inr a ↦ (frame, a.1, refl)
+  ]
 
   counted_open : (k : ℕ) (frame : Frame) → At (slice_set frames place after) k frame → At marks frame.number Open
   counted_open k frame h = let o = old_at k frame h in subst (λ n. At marks n Open) (sym o.2) (w.is_open k o.0 o.1)
 
   counted_framed : (n : ℕ) → At marks n Open → (k : ℕ) × (frame : Frame) × At (slice_set frames place after) k frame × (frame.number ≡ n)
   counted_framed n h = let r = w.framed n h in elim (set_either frames place after r.0 r.1 r.2) [
-    inl a ↦ (r.0, r.1, a, r.3)
-    | inr e ↦ (place, after, set_new frames place after before there, same ∙ ap (λ (f : Frame). f.number) (same_at frames place before r.1 there (subst (λ k. At frames k r.1) e r.2)) ∙ r.3) ]
+    | inl a ↦ (r.0, r.1, a, r.3)
+    | inr e ↦ (place, after, set_new frames place after before there, same ∙ ap (λ (f : Frame). f.number) (same_at frames place before r.1 there (subst (λ k. At frames k r.1) e r.2)) ∙ r.3)
+  ]
 
   counted_once : (i j : ℕ) (f g : Frame) → At (slice_set frames place after) i f → At (slice_set frames place after) j g → f.number ≡ g.number → i ≡ j
   counted_once i j f g hf hg e = let a = old_at i f hf in let b = old_at j g hg in w.once i j a.0 b.0 a.1 b.1 (sym a.2 ∙ e ∙ b.2)
 
   counted_counting : IsCounting structs marks after → (k : ℕ) (frame : Frame) → At (slice_set frames place after) k frame → IsCounting structs marks frame
   counted_counting c k frame h = elim (set_cases frames place after k frame h) [
-    inl e ↦ subst (IsCounting structs marks) (sym e.1) c
-    | inr a ↦ w.counting k frame a.1 ]
+    | inl e ↦ subst (IsCounting structs marks) (sym e.1) c
+    | inr a ↦ w.counting k frame a.1
+  ]
 
   counted_nested : (k : ℕ) (outer inner : Frame) → At (slice_set frames place after) k outer → At (slice_set frames place after) (suc k) inner → Needs structs outer.number inner.number
   counted_nested k outer inner ho hi =
-    let a = old_at k outer ho in
-    let b = old_at (suc k) inner hi in
-    subst (λ n. Needs structs n inner.number) (sym a.2) (subst (λ n. Needs structs a.0.number n) (sym b.2) (w.nested k a.0 b.0 a.1 b.1))
+      let a = old_at k outer ho in
+      let b = old_at (suc k) inner hi in
+      subst (λ n. Needs structs n inner.number) (sym a.2) (subst (λ n. Needs structs a.0.number n) (sym b.2) (w.nested k a.0 b.0 a.1 b.1))
 
   pub counted_on : IsCounting structs marks after → IsWalk structs marks (slice_set frames place after)
   counted_on c = record {
@@ -268,21 +282,24 @@ module _ (structs : Structs) (marks : List Mark) (frames : List Frame) (w : IsWa
 
   left_sized : (depth : ℕ) → sized_count (slice_set marks frame.number (Sized size)) ≤ depth → Agrees (slice_set marks frame.number (Sized size)) (size_of_struct structs depth)
   left_sized depth le n a h = elim (set_cases marks frame.number (Sized size) n (Sized a) h) [
-    inl e ↦ subst (λ k. size_of_struct structs depth k ≡ Some a) (sym e.0) (subst (λ b. size_of_struct structs depth frame.number ≡ Some b) (sym (same_size a size e.1)) (size_at depth (subst (λ m. m ≤ depth) closed le)))
-    | inr b ↦ w.sized depth (omega (arith, le, closed)) n a b.1 ]
+    | inl e ↦ subst (λ k. size_of_struct structs depth k ≡ Some a) (sym e.0) (subst (λ b. size_of_struct structs depth frame.number ≡ Some b) (sym (same_size a size e.1)) (size_at depth (subst (λ m. m ≤ depth) closed le)))
+    | inr b ↦ w.sized depth (omega (arith, le, closed)) n a b.1
+  ]
 
   left_open : (k : ℕ) (f : Frame) → At (take place frames) k f → At (slice_set marks frame.number (Sized size)) f.number Open
   left_open k f h =
-    let t = take_at place frames k f h in
-    set_keeps marks frame.number (Sized size) f.number Open (λ e. let same = w.once k place f frame t.1 there e in omega (arith, same, t.0)) (w.is_open k f t.1)
+      let t = take_at place frames k f h in
+      set_keeps marks frame.number (Sized size) f.number Open (λ e. let same = w.once k place f frame t.1 there e in omega (arith, same, t.0)) (w.is_open k f t.1)
 
   left_framed : (n : ℕ) → At (slice_set marks frame.number (Sized size)) n Open → (k : ℕ) × (f : Frame) × At (take place frames) k f × (f.number ≡ n)
   left_framed n h = elim (set_cases marks frame.number (Sized size) n Open h) [
-    inl e ↦ absurd (not_sized size e.1)
+    | inl e ↦ absurd (not_sized size e.1)
     | inr a ↦ let r = w.framed n a.1 in
-      elim (below_or_at r.0 place (let l = within frames r.0 r.1 r.2 in omega (arith, l, last))) [
-        inl lt ↦ (r.0, r.1, take_keeps place frames r.0 r.1 lt r.2, r.3)
-        | inr e ↦ absurd (a.0 (sym r.3 ∙ ap (λ (f : Frame). f.number) (same_at frames place r.1 frame (subst (λ k. At frames k r.1) e r.2) there))) ] ]
+        elim (below_or_at r.0 place (let l = within frames r.0 r.1 r.2 in omega (arith, l, last))) [
+          | inl lt ↦ (r.0, r.1, take_keeps place frames r.0 r.1 lt r.2, r.3)
+          | inr e ↦ absurd (a.0 (sym r.3 ∙ ap (λ (f : Frame). f.number) (same_at frames place r.1 frame (subst (λ k. At frames k r.1) e r.2) there)))
+        ]
+  ]
 
   left_once : (i j : ℕ) (f g : Frame) → At (take place frames) i f → At (take place frames) j g → f.number ≡ g.number → i ≡ j
   left_once i j f g hf hg e = w.once i j f g (take_at place frames i f hf).1 (take_at place frames j g hg).1 e
@@ -312,8 +329,9 @@ module _ (structs : Structs) (marks : List Mark) (frames : List Frame) (w : IsWa
 
 pub left_seen : (marks : List Mark) (k size : ℕ) → NewWasNew marks (slice_set marks k (Sized size))
 left_seen marks k size n h = elim (set_cases marks k (Sized size) n New h) [
-    inl e ↦ absurd (not_new size e.1)
-    | inr a ↦ a.1 ]
+  | inl e ↦ absurd (not_new size e.1)
+  | inr a ↦ a.1
+]
 
 -- a struct that is being counted has the size that was counted, once all its fields are
 pub counted_size : (structs : Structs) (marks : List Mark) (frame : Frame) (c : IsCounting structs marks frame) → length c.definition.fields ≤ frame.next →
@@ -329,14 +347,16 @@ module _ (structs : Structs) (marks : List Mark) (frames : List Frame) (w : IsWa
     (why : ((depth : ℕ) → size_of_struct structs depth number ≡ None) ⊎ At marks number Open) where
   none_inner : (depth : ℕ) → ((place : ℕ) (frame : Frame) → At frames place frame → size_of_struct structs depth frame.number ≡ None) → size_of_struct structs depth number ≡ None
   none_inner depth all = elim why [
-    inl f ↦ f depth
-    | inr o ↦ let r = w.framed number o in subst (λ n. size_of_struct structs depth n ≡ None) r.3 (all r.0 r.1 r.2) ]
+    | inl f ↦ f depth
+    | inr o ↦ let r = w.framed number o in subst (λ n. size_of_struct structs depth n ≡ None) r.3 (all r.0 r.1 r.2)
+  ]
 
   none_step : (depth : ℕ) → ((place : ℕ) (frame : Frame) → At frames place frame → size_of_struct structs depth frame.number ≡ None) →
       (place : ℕ) (frame : Frame) → At frames place frame → size_of_struct structs (suc depth) frame.number ≡ None
   none_step depth all place frame h = elim (below_or_at (suc place) (length frames) (let l = within frames place frame h in omega (arith, l))) [
-    inl lt ↦ let r = exists_at frames (suc place) lt in w.nested place frame r.0 h r.1 depth (all (suc place) r.0 r.1)
-    | inr e ↦ last place frame h e depth (none_inner depth all) ]
+    | inl lt ↦ let r = exists_at frames (suc place) lt in w.nested place frame r.0 h r.1 depth (all (suc place) r.0 r.1)
+    | inr e ↦ last place frame h e depth (none_inner depth all)
+  ]
 
   pub none_of_frames : (depth place : ℕ) (frame : Frame) → At frames place frame → size_of_struct structs depth frame.number ≡ None
   none_of_frames zero place frame h = refl

@@ -1,5 +1,5 @@
 -- Why a type has no layout, and when.
-use Rattle.std.specs.Prelude.{◌≡◌, ◌<◌, ◌≤◌, ℕ, length, Option, Some, None, IfSome, IsSomeAnd, ⊤}
+use Rattle.std.specs.Prelude.{◌≡◌, ◌<◌, ◌≤◌, ℕ, length, Option, Some, None, ⊤}
 use Rattle.c_types.specs.Layout.{Plan}
 use Rattle.c_layout.specs.declared.faults.TypeFault.{TypeFault}
 use Rattle.c_layout.specs.declared.faults.TypeFault.TheVariants.{Incomplete, TooManyCells, Memory}

@@ -1,5 +1,5 @@
 -- How many cells a type has, counted up to one more than it may have.
-use Rattle.std.specs.Prelude.{◌≡◌, ◌≤◌, ◌<◌, ℕ, zero, suc, ◌+◌, ◌*◌, min, List, [], ◌∷◌, map, length, drop, slice_get, Option, Some, None, option_map, option_and_then, if◌then◌else◌, true, ⊤}
+use Rattle.std.specs.Prelude.{◌≡◌, ◌≤◌, ℕ, zero, suc, ◌+◌, ◌*◌, min, List, [], ◌∷◌, map, length, drop, slice_get, Option, Some, None, option_map, option_and_then, if◌then◌else◌, true, ⊤}
 use Rattle.rvt_tree.specs.declared.types.CType.{CType}
 use Rattle.rvt_tree.specs.declared.types.CType.TheVariants.{Word, Pointer, Array', Struct}
 use Rattle.rvt_tree.specs.declared.programs.StructDef.{StructDef}
@@ -82,7 +82,7 @@ pub record IsCounting (structs : Structs) (marks : List Mark) (frame : Frame) : 
   pub complete : definition.complete ≡ true
   pub few : frame.size ≤ 4097
   pub counts : (depth : ℕ) → sized_count marks ≤ depth →
-    counted (size_of_struct structs depth) frame (types_of definition.fields) ≡ size_in_order (size_of_struct structs depth) (types_of definition.fields)
+      counted (size_of_struct structs depth) frame (types_of definition.fields) ≡ size_in_order (size_of_struct structs depth) (types_of definition.fields)
 
 pub record IsWalk (structs : Structs) (marks : List Mark) (frames : List Frame) : Type 0 where
   pub all : length marks ≡ length structs.list
@@ -102,7 +102,7 @@ LastNeeds structs frames number = (place : ℕ) (frame : Frame) → At frames pl
 -- the last frame's struct has the size that its frame has counted
 abbrev pub LastIsCounted : Structs → List Mark → List Frame → Type 0
 LastIsCounted structs marks frames = (place : ℕ) (frame : Frame) → At frames place frame → suc place ≡ length frames →
-  (depth : ℕ) → sized_count marks ≤ depth → size_of_struct structs (suc depth) frame.number ≡ Some frame.size
+    (depth : ℕ) → sized_count marks ≤ depth → size_of_struct structs (suc depth) frame.number ≡ Some frame.size
 
 abbrev pub numbers : List Frame → List ℕ
 numbers frames = map (λ frame. frame.number) frames

@@ -18,5 +18,6 @@ pub fn layout(alloc: Global, ty: &CType, structs: &Structs) -> Result<Cells, Typ
     ensures refusal { IfErr result (IsRefusal (plan_of structs.now ty.now)) }
 {
     check(alloc, ty, structs)?;
-    list_of(alloc, ty, structs)
+    let cells = list_of(alloc, ty, structs)?;
+    Ok(cells)
 }

@@ -138,7 +138,11 @@ impl Walk {
         let last = self.frames.len() - 1;
         let mut frame = self.frames[last];
         let definition = &structs.list.as_slice()[frame.number as usize];
-        let wanted = count_fields(definition.fields.as_slice(), &mut frame, self.marks.as_slice());
+        let wanted = count_fields(
+            definition.fields.as_slice(),
+            &mut frame,
+            self.marks.as_slice(),
+        );
         self.frames[last] = frame;
         wanted
     }
@@ -173,14 +177,14 @@ fn size_of(alloc: Global, ty: &CType, structs: &Structs) -> Result<u32, TypeFaul
     ensures size { IfOk result (λ size. option_map size_of_plan (plan_of structs.now ty.now) ≡ Some size) }
     ensures refusal { IfErr result (IsRefusal (plan_of structs.now ty.now)) }
 {
+    let number = match size_in(ty, &[]) {
+        Ok(size) => return Ok(size),
+        Err(number) => number,
+    };
     let marks = vec![in alloc; Mark::New; structs.list.len()]?;
     let mut walk = Walk {
         marks,
         frames: Vec::new(alloc),
-    };
-    let number = match size_in(ty, walk.marks.as_slice()) {
-        Ok(size) => return Ok(size),
-        Err(number) => number,
     };
     walk.enter(structs, number)?;
     'steps: while !walk.frames.is_empty() {

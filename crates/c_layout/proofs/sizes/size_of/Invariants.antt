@@ -1,4 +1,4 @@
-use Rattle.std.proofs.Common.{◌≡◌, ◌≤◌, ◌<◌, ℕ, length}
+use Rattle.std.proofs.Common.{◌≡◌, ◌<◌, length}
 use Rattle.c_layout.specs.declared.sizes.Mark.TheVariants.{New}
 use Rattle.c_layout.specs.declared.sizes.Frame.{Frame}
 use Rattle.c_layout.specs.Sizes.{At, IsWalk, steps_left}

@@ -3,7 +3,7 @@ use Rattle.std.specs.Prelude.{IfSome}
 use Rattle.rvt_tree.specs.declared.types.CType.{CType}
 use Rattle.c_layout.specs.declared.sizes.Mark.TheVariants.{Sized}
 use Rattle.c_layout.specs.Sizes.{At, types_of, struct_in, LastNeeds, LastIsCounted}
-use Rattle.c_layout.proofs.Steps.{is_last, last_counts, last_within, walk_after, numbers_after, needed_after, counted_after, if_some, if_none}
+use Rattle.c_layout.proofs.Steps.{last_counts, last_within, walk_after, numbers_after, needed_after, counted_after, if_some, if_none}
 use Rattle.c_layout.proofs.sizes.Walk.count_on.Goals as goal
 
 pub bounds-as_slice-frame : goal.bounds-as_slice-frame

@@ -1,5 +1,4 @@
-use Rattle.std.proofs.Common.{◌≡◌, ◌∙◌, sym, ap, inl, inr, subst, arith, Some, slice_set, length}
-use Rattle.c_layout.specs.Sizes.{At, IsWalk, new_count}
+use Rattle.std.proofs.Common.{sym, inr, arith}
 use Rattle.c_layout.specs.declared.sizes.Mark.TheVariants.{New, Open, Sized}
 use Rattle.c_layout.proofs.Walks.{entered, entered_seen, opened_new, none_itself, read_mark}
 use Rattle.c_layout.proofs.Lists.{set_new}

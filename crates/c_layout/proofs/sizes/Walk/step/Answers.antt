@@ -1,6 +1,6 @@
-use Rattle.std.proofs.Common.{◌≡◌, ◌<◌, ◌≤◌, ◌-◌, ◌∙◌, ℕ, arith, length, ap, sym, subst, take, slice_set, Some}
-use Rattle.c_layout.specs.declared.sizes.Mark.TheVariants.{New, Sized}
-use Rattle.c_layout.specs.Sizes.{At, IsWalk, steps_left, new_count, IsStuck}
+use Rattle.std.proofs.Common.{◌≡◌, ◌-◌, ◌∙◌, arith, ap, sym, subst, take}
+use Rattle.c_layout.specs.declared.sizes.Mark.TheVariants.{New}
+use Rattle.c_layout.specs.Sizes.{At, new_count, IsStuck}
 use Rattle.c_layout.proofs.Steps.{same_length, ended, ended_within, ended_less, pushed_first, taken_first, stuck_like}
 use Rattle.c_layout.proofs.Ends.{err_from}
 use Rattle.c_layout.proofs.Walks.{left_seen, stuck}
