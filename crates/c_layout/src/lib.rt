@@ -1,0 +1,13 @@
+//! The layout of a type: its cells in order, and which values begin where.
+#![tactic(auto)]
+
+mod copies;
+mod faults;
+mod layouts;
+mod plans;
+mod sizes;
+#[cfg(test)]
+mod tests;
+
+pub use faults::TypeFault;
+pub use layouts::layout;
