@@ -8,23 +8,55 @@ ghost use Rattle.sat_search.specs.Found.{IsFound};
 
 use crate::found::Found;
 use crate::learning::{backjump, learn};
-use clause_db::{Clauses, Log, LogLine, Memory, largest_variable};
+use clause_db::{Clauses, Log, LogLine, Memory, largest_variable, variable};
 use std::alloc::Global;
 use unit_propagation::{Trail, Value, Watches};
 
-/// The least free variable, or 0.
-fn least_free(trail: &Trail) -> usize
-    requires { 0 < length trail.now.places.items }
+/// The variable of the last decision, or 0 where there is none.
+fn last_decided(trail: &Trail) -> usize
+    requires started { (k : ℕ) → k < length trail.now.starts.items → slice_index trail.now.starts.items k < length trail.now.literals.items }
+    requires variables { 0 < length trail.now.places.items }
+    ensures { result < length trail.now.places.items }
+{
+    if trail.starts.is_empty() {
+        return 0;
+    }
+    let start = trail.starts[trail.starts.len() - 1];
+    variable(trail.literals[start]) as usize
+}
+
+/// The least free variable from one on and before another, or 0.
+fn first_free(trail: &Trail, from: usize, to: usize) -> usize
+    requires positive { 0 < from }
+    requires within { to ≤ length trail.now.places.items }
+    requires variables { 0 < length trail.now.places.items }
     ensures within { result < length trail.now.places.items }
     ensures free { 0 < result → slice_index trail.now.places.items result ≡ 0 }
-    ensures none { result ≡ 0 → (v : ℕ) → 0 < v → v < length trail.now.places.items → 0 < slice_index trail.now.places.items v }
+    ensures none { result ≡ 0 → (v : ℕ) → from ≤ v → v < to → 0 < slice_index trail.now.places.items v }
 {
-    for v in 1..trail.places.len() {
+    for v in from..to {
         if trail.places[v] == 0 {
             return v;
         }
     }
     0
+}
+
+/// A free variable, or 0. Where each decision was made by this rule, no variable before the last one's is free,
+/// and this is the least one; so the variables before it are looked at once, at the end of the search.
+fn least_free(trail: &Trail) -> usize
+    requires started { (k : ℕ) → k < length trail.now.starts.items → slice_index trail.now.starts.items k < length trail.now.literals.items }
+    requires variables { 0 < length trail.now.places.items }
+    ensures within { result < length trail.now.places.items }
+    ensures free { 0 < result → slice_index trail.now.places.items result ≡ 0 }
+    ensures none { result ≡ 0 → (v : ℕ) → 0 < v → v < length trail.now.places.items → 0 < slice_index trail.now.places.items v }
+{
+    let next = last_decided(trail) + 1;
+    let later = first_free(trail, next, trail.places.len());
+    if later > 0 {
+        return later;
+    }
+    first_free(trail, 1, next)
 }
 
 /// Makes the least free variable false, and answers whether there was one.
