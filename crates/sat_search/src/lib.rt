@@ -1,6 +1,7 @@
 // A search for an assignment, by decisions, unit propagation and clauses learnt from conflicts.
 #![tactic(auto)]
 
+mod decisions;
 mod found;
 mod learning;
 mod solver;

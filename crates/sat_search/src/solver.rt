@@ -6,61 +6,16 @@ ghost use Rattle.unit_propagation.specs.Watching.{entries, IsWatched};
 ghost use Rattle.sat_search.specs.Learning.{IsSearching};
 ghost use Rattle.sat_search.specs.Found.{IsFound};
 
+use crate::decisions::{Decides, LeastFree};
 use crate::found::Found;
 use crate::learning::{backjump, learn};
-use clause_db::{Clauses, Log, LogLine, Memory, largest_variable, variable};
+use clause_db::{Clauses, Log, LogLine, Memory, largest_variable};
 use std::alloc::Global;
 use unit_propagation::{Trail, Value, Watches};
 
-/// The variable of the last decision, or 0 where there is none.
-fn last_decided(trail: &Trail) -> usize
-    requires started { (k : ℕ) → k < length trail.now.starts.items → slice_index trail.now.starts.items k < length trail.now.literals.items }
-    requires variables { 0 < length trail.now.places.items }
-    ensures { result < length trail.now.places.items }
-{
-    if trail.starts.is_empty() {
-        return 0;
-    }
-    let start = trail.starts[trail.starts.len() - 1];
-    variable(trail.literals[start]) as usize
-}
-
-/// The least free variable from one on and before another, or 0.
-fn first_free(trail: &Trail, from: usize, to: usize) -> usize
-    requires positive { 0 < from }
-    requires within { to ≤ length trail.now.places.items }
-    requires variables { 0 < length trail.now.places.items }
-    ensures within { result < length trail.now.places.items }
-    ensures free { 0 < result → slice_index trail.now.places.items result ≡ 0 }
-    ensures none { result ≡ 0 → (v : ℕ) → from ≤ v → v < to → 0 < slice_index trail.now.places.items v }
-{
-    for v in from..to {
-        if trail.places[v] == 0 {
-            return v;
-        }
-    }
-    0
-}
-
-/// A free variable, or 0. Where each decision was made by this rule, no variable before the last one's is free,
-/// and this is the least one; so the variables before it are looked at once, at the end of the search.
-fn least_free(trail: &Trail) -> usize
-    requires started { (k : ℕ) → k < length trail.now.starts.items → slice_index trail.now.starts.items k < length trail.now.literals.items }
-    requires variables { 0 < length trail.now.places.items }
-    ensures within { result < length trail.now.places.items }
-    ensures free { 0 < result → slice_index trail.now.places.items result ≡ 0 }
-    ensures none { result ≡ 0 → (v : ℕ) → 0 < v → v < length trail.now.places.items → 0 < slice_index trail.now.places.items v }
-{
-    let next = last_decided(trail) + 1;
-    let later = first_free(trail, next, trail.places.len());
-    if later > 0 {
-        return later;
-    }
-    first_free(trail, 1, next)
-}
-
-/// Makes the least free variable false, and answers whether there was one.
-fn decide(
+/// Makes the literal true that the rule chose, and answers whether there was one.
+fn decide<D: Decides>(
+    rule: &mut D,
     clauses: &Clauses,
     lines: &[LogLine],
     trail: &mut Trail,
@@ -78,13 +33,14 @@ fn decide(
     ensures unchanged { IfOk result (λ decided. decided ≡ false → trail.new.literals.items ≡ trail.old.literals.items) }
     ensures variables { length trail.new.places.items ≡ length trail.old.places.items }
 {
-    let v = least_free(trail);
-    if v == 0 {
-        return Ok(false);
+    match rule.choose(trail) {
+        None => Ok(false),
+        Some(literal) => {
+            trail.open_level()?;
+            trail.push(literal, 0)?;
+            Ok(true)
+        }
     }
-    trail.open_level()?;
-    trail.push(-(v as i64), 0)?;
-    Ok(true)
 }
 
 /// Is the variable true?
@@ -125,8 +81,9 @@ fn push_line(log: &mut Log, line: LogLine) -> Result<(), Memory>
     }
 }
 
-/// A search over clauses whose variables are at most this one.
-fn search_over(
+/// A search by this rule over clauses whose variables are at most this one.
+fn search_over<D: Decides>(
+    rule: &mut D,
     alloc: Global,
     clauses: &Clauses,
     variables: u64,
@@ -165,9 +122,10 @@ fn search_over(
                 )?;
                 push_line(&mut log, learnt.line)?;
                 watches.add()?;
+                rule.undone(&trail);
             }
             None => {
-                if !decide(clauses, &log.lines, &mut trail, &watches)? {
+                if !decide(rule, clauses, &log.lines, &mut trail, &watches)? {
                     let values = assignment_of(alloc, &trail)?;
                     return Ok(Found::Satisfied(values, log.lines.len() as u32));
                 }
@@ -193,6 +151,6 @@ pub fn search(alloc: Global, clauses: &Clauses, limit: u32) -> Result<Found, Mem
     if variables >= 1 << 59 {
         return Err(Memory);
     }
-    let found = search_over(alloc, clauses, variables, limit)?;
+    let found = search_over(&mut LeastFree, alloc, clauses, variables, limit)?;
     Ok(found)
 }

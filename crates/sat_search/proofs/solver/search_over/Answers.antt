@@ -35,53 +35,53 @@ fits_first : (list more : List (List ℤ)) (n : ℕ) → FitsVariables n (list +
 fits_first list more n fits k d h = subst (λ c. IsOrdered c × All (λ l. (0 < variable_of l) × (variable_of l < n)) c) (get_or_append_left list more d k h) (fits k d (let g = length-append list more in omega (arith, g, h)))
 
 pub propagate-requires-clause-fits : goal.propagate-requires-clause-fits
-propagate-requires-clause-fits c = subst (λ (ls : List LogLine). FitsVariables (length c.steps.trail.places.items) (literal_lists c.args.clauses.now.list.items ++ results ls)) (sym c.deref.ensures.value) c.steps.invariant.fits
+propagate-requires-clause-fits g c = subst (λ (ls : List LogLine). FitsVariables (length c.steps.trail.places.items) (literal_lists c.args.clauses.now.list.items ++ results ls)) (sym c.deref.ensures.value) c.steps.invariant.fits
 
 pub propagate-requires-clause-reasons : goal.propagate-requires-clause-reasons
-propagate-requires-clause-reasons c = subst (λ (ls : List LogLine). HasReasons (literal_lists c.args.clauses.now.list.items ++ results ls) c.steps.trail.literals.items c.steps.trail.starts.items c.steps.trail.reasons.items) (sym c.deref.ensures.value) c.steps.invariant.searching.has_reasons
+propagate-requires-clause-reasons g c = subst (λ (ls : List LogLine). HasReasons (literal_lists c.args.clauses.now.list.items ++ results ls) c.steps.trail.literals.items c.steps.trail.starts.items c.steps.trail.reasons.items) (sym c.deref.ensures.value) c.steps.invariant.searching.has_reasons
 
 pub propagate-requires-clause-watched : goal.propagate-requires-clause-watched
-propagate-requires-clause-watched c =
+propagate-requires-clause-watched g c =
     let trail = c.steps.trail in
     let w = c.steps.watches in
     subst (λ (ls : List LogLine). IsWatched (literal_lists c.args.clauses.now.list.items ++ results ls) trail.literals.items trail.starts.items (length trail.places.items) w.head w.pairs.items (entries w.lists.items) w.pending.items) (sym c.deref.ensures.value) c.steps.invariant.watched
 
 pub propagate-requires-clause-all_known : goal.propagate-requires-clause-all_known
-propagate-requires-clause-all_known c =
+propagate-requires-clause-all_known g c =
     subst (λ (ls : List LogLine). length c.steps.watches.pairs.items ≡ length (literal_lists c.args.clauses.now.list.items ++ results ls)) (sym c.deref.ensures.value) c.steps.invariant.known
 
 pub backjump-requires-clause-watched : goal.backjump-requires-clause-watched
-backjump-requires-clause-watched c =
+backjump-requires-clause-watched g c =
     let trail = c.propagate.new.trail in
     let w = c.propagate.new.self in
     subst (λ (ls : List LogLine). IsWatched (literal_lists c.args.clauses.now.list.items ++ results ls) trail.literals.items trail.starts.items (length trail.places.items) w.head w.pairs.items (entries w.lists.items) w.pending.items) (c.deref.ensures.value ∙ sym c.deref-in-Some-2.ensures.value) c.in_ok-conflict.ensures.watched
 
 pub decide-requires-clause-watched : goal.decide-requires-clause-watched
-decide-requires-clause-watched c =
+decide-requires-clause-watched g c =
     let trail = c.propagate.new.trail in
     let w = c.propagate.new.self in
     subst (λ (ls : List LogLine). IsWatched (literal_lists c.args.clauses.now.list.items ++ results ls) trail.literals.items trail.starts.items (length trail.places.items) w.head w.pairs.items (entries w.lists.items) w.pending.items) (c.deref.ensures.value ∙ sym c.deref-in-None.ensures.value) c.in_ok-conflict.ensures.watched
 
 pub decide-requires-clause-handled : goal.decide-requires-clause-handled
-decide-requires-clause-handled c = c.in_ok-conflict.ensures.handled c.in-None.is
+decide-requires-clause-handled g c = c.in_ok-conflict.ensures.handled c.in-None.is
 
 pub learn-requires-clause-searching : goal.learn-requires-clause-searching
-learn-requires-clause-searching c =
+learn-requires-clause-searching g c =
     let e = c.in_ok-conflict.ensures in
     propagated (literal_lists c.args.clauses.now.list.items) c.steps.log.lines.items c.deref.result.now c.deref-in-Some.result.now c.steps.trail.literals.items c.propagate.new.trail.literals.items c.steps.trail.starts.items c.propagate.new.trail.starts.items c.steps.trail.reasons.items c.propagate.new.trail.reasons.items c.steps.invariant.searching c.deref.ensures.value c.deref-in-Some.ensures.value e.extends e.starts e.reasons_kept
 
 pub backjump-requires-clause-searching : goal.backjump-requires-clause-searching
-backjump-requires-clause-searching c =
+backjump-requires-clause-searching g c =
     let e = c.in_ok-conflict.ensures in
     propagated (literal_lists c.args.clauses.now.list.items) c.steps.log.lines.items c.deref.result.now c.deref-in-Some-2.result.now c.steps.trail.literals.items c.propagate.new.trail.literals.items c.steps.trail.starts.items c.propagate.new.trail.starts.items c.steps.trail.reasons.items c.propagate.new.trail.reasons.items c.steps.invariant.searching c.deref.ensures.value c.deref-in-Some-2.ensures.value e.extends e.starts e.reasons_kept
 
 pub decide-requires-clause-searching : goal.decide-requires-clause-searching
-decide-requires-clause-searching c =
+decide-requires-clause-searching g c =
     let e = c.in_ok-conflict.ensures in
     propagated (literal_lists c.args.clauses.now.list.items) c.steps.log.lines.items c.deref.result.now c.deref-in-None.result.now c.steps.trail.literals.items c.propagate.new.trail.literals.items c.steps.trail.starts.items c.propagate.new.trail.starts.items c.steps.trail.reasons.items c.propagate.new.trail.reasons.items c.steps.invariant.searching c.deref.ensures.value c.deref-in-None.ensures.value e.extends e.starts e.reasons_kept
 
 pub steps-init : goal.steps-init
-steps-init c =
+steps-init g c =
     let list : List (List ℤ) = literal_lists c.args.clauses.now.list.items in
     let n : ℕ = length c.in_ok-trail.trail.places.items in
     let none = c.new-2.ensures.items in
@@ -103,7 +103,7 @@ steps-init c =
     }
 
 pub returns-then-latest-eq0 : goal.returns-then-latest-eq0
-returns-then-latest-eq0 c =
+returns-then-latest-eq0 g c =
     let list : List (List ℤ) = literal_lists c.args.clauses.now.list.items in
     let lines : List LogLine = c.steps.log.lines.items in
     let learnt = c.in_ok-learnt-in-Some.learnt in
@@ -116,7 +116,7 @@ returns-then-latest-eq0 c =
     }
 
 pub returns-then-len-limit : goal.returns-then-len-limit
-returns-then-len-limit c =
+returns-then-len-limit g c =
     let list : List (List ℤ) = literal_lists c.args.clauses.now.list.items in
     let lines : List LogLine = c.steps.log.lines.items in
     let learnt = c.in_ok-learnt-in-Some.learnt in
@@ -137,8 +137,8 @@ returns-then-len-limit c =
       not_refuted = not_refuted list (results lines) trail.literals.items trail.places.items trail.places_right (slice_index trail.starts.items 0) (searching.quiet_before 0 some);
     }
 
-pub steps-smaller-in_ok-add-in-Some : goal.steps-smaller-in_ok-add-in-Some
-steps-smaller-in_ok-add-in-Some c =
+pub steps-smaller-in-Some : goal.steps-smaller-in-Some
+steps-smaller-in-Some g c =
     let lines : List LogLine = c.steps.log.lines.items in
     let trail = c.backjump.new.trail in
     let n : ℕ = length c.steps.trail.places.items in
@@ -147,8 +147,8 @@ steps-smaller-in_ok-add-in-Some c =
     let fits = trail_fits c.steps.trail.literals.items c.steps.trail.places.items c.steps.trail.places_right in
     rw (same, more) (fewer_conflicts_left c.args.limit (length lines) n (length c.steps.trail.literals.items) (length trail.literals.items) c.steps.invariant.below fits)
 
-pub steps-preserved-in_ok-add-in-Some : goal.steps-preserved-in_ok-add-in-Some
-steps-preserved-in_ok-add-in-Some c =
+pub steps-preserved-in-Some : goal.steps-preserved-in-Some
+steps-preserved-in-Some g c =
     let list : List (List ℤ) = literal_lists c.args.clauses.now.list.items in
     let lines : List LogLine = c.steps.log.lines.items in
     let i = c.steps.invariant in
@@ -189,14 +189,14 @@ steps-preserved-in_ok-add-in-Some c =
     }
 
 pub decide-requires-clause-quiet : goal.decide-requires-clause-quiet
-decide-requires-clause-quiet c =
+decide-requires-clause-quiet g c =
     let list : List (List ℤ) = literal_lists c.args.clauses.now.list.items in
     let new : List ℤ = c.propagate.new.trail.literals.items in
     let quiet = subst (IsOutcome (list ++ results c.deref.result.now) new) c.in-None.is c.in_ok-conflict.ensures.outcome in
     subst (λ (ls : List LogLine). IsQuiet new (list ++ results ls)) (c.deref.ensures.value ∙ sym c.deref-in-None.ensures.value) quiet
 
 pub returns-then-not-branch : goal.returns-then-not-branch
-returns-then-not-branch c =
+returns-then-not-branch g c =
     let list : List (List ℤ) = literal_lists c.args.clauses.now.list.items in
     let new : List ℤ = c.propagate.new.trail.literals.items in
     let trail = c.decide.new.trail in
@@ -209,7 +209,7 @@ returns-then-not-branch c =
     (assignment_satisfies list trail.literals.items trail.places.items trail.places_right quiet_list fits_list (d.none_free c.if-not-branch.true) _ c.in_ok-values-in-None.ensures.says, omega (arith, c.in_ok-values-in-None.ensures.each_variable, variables, c.steps.invariant.variables), omega (arith, c.len-then-not-branch.ensures, c.steps.log.lines.ok.0, c.steps.invariant.below))
 
 pub steps-smaller : goal.steps-smaller
-steps-smaller c =
+steps-smaller g c =
     let trail = c.decide.new.trail in
     let same : length trail.places.items ≡ length c.steps.trail.places.items = c.decide.ensures.variables ∙ c.propagate.ensures.variables in
     let longer = c.in_ok-decide-in-None.ensures.longer c.if-not-branch.false in
@@ -218,7 +218,7 @@ steps-smaller c =
     rw same (omega (arith, same, longer, grown, fits))
 
 pub steps-preserved : goal.steps-preserved
-steps-preserved c =
+steps-preserved g c =
     let list : List (List ℤ) = literal_lists c.args.clauses.now.list.items in
     let i = c.steps.invariant in
     let trail = c.decide.new.trail in

@@ -8,7 +8,7 @@ use Rattle.sat_search.specs.Learning.{IsSearching}
 use Rattle.sat_search.proofs.solver.search_over.Given as goal
 
 abbrev pub invariant-steps : goal.invariant-steps
-invariant-steps l = record {
+invariant-steps g l = record {
   variables : length l.trail.places.items ≡ l.variables + 1;
   fits : FitsVariables (length l.trail.places.items) (literal_lists l.clauses.list.items ++ results l.log.lines.items);
   searching : IsSearching (literal_lists l.clauses.list.items ++ results l.log.lines.items) l.trail.literals.items l.trail.starts.items l.trail.reasons.items;
@@ -20,4 +20,4 @@ invariant-steps l = record {
 }
 
 abbrev pub decreases-steps : goal.decreases-steps
-decreases-steps l = (l.limit - length l.log.lines.items) * (length l.trail.places.items + 1) + (length l.trail.places.items - length l.trail.literals.items)
+decreases-steps g l = (l.limit - length l.log.lines.items) * (length l.trail.places.items + 1) + (length l.trail.places.items - length l.trail.literals.items)
