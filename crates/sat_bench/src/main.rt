@@ -9,32 +9,35 @@ use sat_search::{Found, search};
 use std::alloc::{AllocError, Global};
 use std::io;
 
-/// The numbers of a line, without the 0 that ends it.
-fn numbers_of(alloc: Global, line: &str) -> Result<Vec<i64>, AllocError> {
+/// The numbers of a line, or `None` where a word of it is no number.
+fn numbers_of(alloc: Global, line: &str) -> Result<Option<Vec<i64>>, AllocError> {
     let mut numbers = Vec::new(alloc);
     for word in line.split(' ') {
         match word.parse::<i64>() {
-            Ok(number) => {
-                if number != 0 {
-                    numbers.push(number)?;
-                }
-            }
-            Err(_) => {}
+            Ok(number) => numbers.push(number)?,
+            Err(_) => return Ok(None),
         }
     }
-    Ok(numbers)
+    Ok(Some(numbers))
 }
 
-/// The limit that a line states, or 0.
-fn limit_of(numbers: &[i64]) -> u32 {
-    if numbers.is_empty() {
-        return 0;
+/// The clause of a line that a 0 ends.
+fn clause_of(alloc: Global, line: &str) -> Result<Option<Clause>, AllocError> {
+    let mut numbers = match numbers_of(alloc, line)? {
+        Some(numbers) => numbers,
+        None => return Ok(None),
+    };
+    if numbers.pop() != Some(0) || !is_clause(&numbers) {
+        return Ok(None);
     }
-    let limit = numbers[0];
-    if limit < 0 || limit > 1000000000 {
-        0
-    } else {
-        limit as u32
+    Ok(Some(Clause { literals: numbers }))
+}
+
+/// The limit that a line states, from 1 to 1,000,000,000.
+fn limit_of(line: &str) -> Option<u32> {
+    match line.parse::<u32>() {
+        Ok(limit) if limit > 0 && limit <= 1_000_000_000 => Some(limit),
+        _ => None,
     }
 }
 
@@ -60,17 +63,26 @@ fn main(rt: HostRuntime) -> io::Result<()> {
     let alloc = rt.alloc();
     let mut list = Vec::new(alloc);
     let mut limit = 0;
+    let mut number = 0u64;
     for line in rt.lines(alloc) {
         let text = line?;
-        let numbers = numbers_of(alloc, text.as_str())?;
+        number = number.saturating_add(1);
         if limit == 0 {
-            limit = limit_of(&numbers);
-        } else if is_clause(&numbers) {
-            list.push(Clause { literals: numbers })?;
+            match limit_of(text.as_str()) {
+                Some(stated) => limit = stated,
+                None => return println!(rt; "line 1 is no limit from 1 to 1000000000"),
+            }
+        } else {
+            match clause_of(alloc, text.as_str())? {
+                Some(clause) => list.push(clause)?,
+                None => return println!(rt;
+                    "line {number} is no clause with its variables in order"
+                ),
+            }
         }
     }
     if limit == 0 {
-        return Ok(());
+        return println!(rt; "there is no limit");
     }
     let variables = largest_variable(&list);
     let clauses = Clauses { list, variables };
