@@ -5,11 +5,11 @@ use Rattle.std.proofs.lemmas.Bool.{and_parts, and_left, not-true, eqb-true, both
 use Rattle.std.proofs.lemmas.Slice.Eq.{bytes_eq-Decides}
 use Rattle.std.proofs.lemmas.List.{length-take, length-take-le, take_at}
 use Rattle.c_tokens.specs.declared.front.Front.{Front}
-use Rattle.c_tokens.specs.declared.tables.TheConstants.{KEYWORDS, PUNCTUATORS}
+use Rattle.c_tokens.specs.declared.tables.TheConstants.{KEYWORDS, PUNCTUATORS, SUFFIXES, ESCAPES}
 use Rattle.c_tokens.specs.declared.tokens.Punctuator.{Punctuator}
 use Rattle.c_tokens.specs.declared.tokens.TokenClass.TheVariants.{Punct}
 use Rattle.c_tokens.specs.Bytes.{is_name_byte, is_space, is_in_line}
-use Rattle.c_tokens.specs.Tables.{keywords, punctuators, written_so, punctuator_of}
+use Rattle.c_tokens.specs.Tables.{keywords, punctuators, suffixes, escapes, written_so, punctuator_of}
 use Rattle.c_tokens.specs.Fronts.{begins_with, first_front}
 
 -- ---- the tables of the code are those of the definitions
@@ -19,6 +19,12 @@ keywords_are = refl
 
 pub punctuators_are : map (λ entry. (entry.0.now, entry.1)) PUNCTUATORS ≡ punctuators
 punctuators_are = refl
+
+pub suffixes_are : map (λ entry. (entry.0.now, entry.1)) SUFFIXES ≡ suffixes
+suffixes_are = refl
+
+pub escapes_are : map (λ entry. (entry.0.now, entry.1)) ESCAPES ≡ escapes
+escapes_are = refl
 
 -- ---- no punctuator begins with a name byte or white space
 

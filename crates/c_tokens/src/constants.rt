@@ -1,6 +1,7 @@
 //! Integer constants (C 6.4.4.1).
 
-ghost use Rattle.std.specs.Prelude.{◌≡◌, map};
+ghost use Rattle.std.specs.Prelude.{◌≡◌, map, pos};
+ghost use Rattle.rvt_num.specs.Wrapping.{wrapped};
 ghost use Rattle.c_tokens.specs.Constants as constants;
 ghost use Rattle.c_tokens.specs.Tables.{suffix_of};
 
@@ -67,9 +68,15 @@ fn written_in(base: Base, text: &[u8]) -> Option<Num>
         return None;
     };
     match first_holding(kinds_for(base, suffix), value) {
-        Some(kind) => Some(Num::wrapped(kind, i128::from(value))),
+        Some(kind) => Some(number(kind, value)),
         None => None,
     }
+}
+
+fn number(kind: Kind, value: u64) -> Num
+    ensures { result ≡ wrapped kind (pos value) }
+{
+    Num::wrapped(kind, i128::from(value))
 }
 
 fn suffix_of(text: &[u8]) -> Option<Suffix>
