@@ -168,16 +168,16 @@ no_first_punctuator text e longer begins = none_is punctuators text e longer beg
 
 -- ---- no line ends within a punctuator
 
-abbrev texts_pass : (List ℕ → Bool) → List (List ℕ × Punctuator) → Bool
+abbrev pub texts_pass : {X : Type 0} → (List ℕ → Bool) → List (List ℕ × X) → Bool
 texts_pass test [] = true
 texts_pass test (entry ∷ entries) = test entry.0 && texts_pass test entries
 
-passes_step : (test : List ℕ → Bool) (entry : List ℕ × Punctuator) (entries : List (List ℕ × Punctuator)) (text : List ℕ) (p : Punctuator) → test entry.0 ≡ true
+passes_step : {X : Type 0} (test : List ℕ → Bool) (entry : List ℕ × X) (entries : List (List ℕ × X)) (text : List ℕ) (p : X) → test entry.0 ≡ true
     → (written_so entries text ≡ Some p → test text ≡ true) → (b : Bool) → bytes_eq entry.0 text ≡ b → cond b (Some entry.1) (written_so entries text) ≡ Some p → test text ≡ true
 passes_step test entry entries text p here later true same e = subst (λ t. test t ≡ true) ((bytes_eq-Decides entry.0 text).0 same) here
 passes_step test entry entries text p here later false other e = later e
 
-text_passes : (test : List ℕ → Bool) (entries : List (List ℕ × Punctuator)) → texts_pass test entries ≡ true → (text : List ℕ) (p : Punctuator) → written_so entries text ≡ Some p → test text ≡ true
+pub text_passes : {X : Type 0} (test : List ℕ → Bool) (entries : List (List ℕ × X)) → texts_pass test entries ≡ true → (text : List ℕ) (p : X) → written_so entries text ≡ Some p → test text ≡ true
 text_passes test [] pass text p e = absurd (cc)
 text_passes test (entry ∷ entries) pass text p e =
     let parts = and_parts (test entry.0) (texts_pass test entries) pass in
