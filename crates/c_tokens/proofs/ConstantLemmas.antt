@@ -65,7 +65,7 @@ first_holds (k ∷ ks) n kind h = first_by k ks n kind (first_holds ks n kind) (
 
 -- ---- what digits and a suffix say
 
-value_by : (b : Bool) (v n : ℕ) → cond b (Some v) None ≡ Some n → v ≡ n
+pub value_by : (b : Bool) (v n : ℕ) → cond b (Some v) None ≡ Some n → v ≡ n
 value_by true v n h = some_is h
 value_by false v n h = cc
 

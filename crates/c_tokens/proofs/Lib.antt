@@ -2,3 +2,4 @@ pub mod Runs
 pub mod TableLemmas
 pub mod DigitLemmas
 pub mod ConstantLemmas
+pub mod QuoteLemmas

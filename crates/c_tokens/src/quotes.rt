@@ -100,7 +100,10 @@ fn escape_of(escape: &[u8]) -> Option<u8>
 fn byte_value(base: Base, digits: &[u8]) -> Option<u8>
     ensures { result ≡ quotes.byte_value base digits.now }
 {
-    if digits.is_empty() || digits_length(base, digits) < digits.len() {
+    if digits.is_empty() {
+        return None;
+    }
+    if digits_length(base, digits) < digits.len() {
         return None;
     }
     match digits_value(base, digits) {
