@@ -26,10 +26,13 @@ suffixes_are = refl
 pub escapes_are : map (λ entry. (entry.0.now, entry.1)) ESCAPES ≡ escapes
 escapes_are = refl
 
--- ---- no punctuator begins with a name byte or white space
+-- ---- no punctuator begins with a name byte, white space or a quote
+
+abbrev pub is_quote : ℕ → Bool
+is_quote byte = eqb byte 39 || eqb byte 34
 
 abbrev pub is_other : ℕ → Bool
-is_other byte = is_name_byte byte || is_space byte
+is_other byte = (is_name_byte byte || is_space byte) || is_quote byte
 
 abbrev begins_apart : List ℕ → Bool
 begins_apart [] = true
