@@ -3,3 +3,4 @@ pub mod TableLemmas
 pub mod DigitLemmas
 pub mod ConstantLemmas
 pub mod QuoteLemmas
+pub mod ClassLemmas
