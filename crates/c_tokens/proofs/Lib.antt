@@ -4,3 +4,4 @@ pub mod DigitLemmas
 pub mod ConstantLemmas
 pub mod QuoteLemmas
 pub mod ClassLemmas
+pub mod FrontLemmas
