@@ -37,7 +37,7 @@ not_none x e = absurd (cc)
 pub same_first : (x y : ℕ) (xs ys : List ℕ) → x ∷ xs ≡ y ∷ ys → x ≡ y
 same_first x y xs ys e = ap (λ l. get_or l 0 0) e
 
-no_some : {X : Type 0} (o : Option X) → o ≡ None → is_some o ≡ true → ⊥
+pub no_some : {X : Type 0} (o : Option X) → o ≡ None → is_some o ≡ true → ⊥
 no_some None h is = cc
 no_some (Some x) h is = cc
 

@@ -5,3 +5,5 @@ pub mod ConstantLemmas
 pub mod QuoteLemmas
 pub mod ClassLemmas
 pub mod FrontLemmas
+pub mod QuotedFronts
+pub mod TokenLaws

@@ -12,7 +12,7 @@ use Rattle.c_tokens.specs.Bytes.{is_line_end, is_in_line}
 use Rattle.c_tokens.proofs.Runs.{all-run}
 use Rattle.c_tokens.proofs.ConstantLemmas.{value_by}
 
-some_is : {X : Type 0} {x y : X} → Some x ≡ Some y → x ≡ y
+pub some_is : {X : Type 0} {x y : X} → Some x ≡ Some y → x ≡ y
 some_is h = cc
 
 same_before : (n m : ℕ) → suc n ≡ suc m → n ≡ m
@@ -27,10 +27,10 @@ empty_in_line (byte ∷ bytes) h = absurd cc
 
 -- ---- numbers of bytes
 
-all_of_run : {X : Type 0} (p : X → Bool) (xs : List X) → length xs ≤ prefix_len p xs → list_all p xs ≡ true
+pub all_of_run : {X : Type 0} (p : X → Bool) (xs : List X) → length xs ≤ prefix_len p xs → list_all p xs ≡ true
 all_of_run p xs h = subst (λ t. list_all p t ≡ true) (take_all (prefix_len p xs) xs h) (all-run p xs)
 
-run_of_all : {X : Type 0} (p : X → Bool) (xs : List X) → list_all p xs ≡ true → length xs ≤ prefix_len p xs
+pub run_of_all : {X : Type 0} (p : X → Bool) (xs : List X) → list_all p xs ≡ true → length xs ≤ prefix_len p xs
 run_of_all p [] h = omega arith
 run_of_all p (x ∷ xs) h =
     let parts = and_parts (p x) (list_all p xs) h in
@@ -94,7 +94,7 @@ closed_front quote escaped [] n h = absurd cc
 closed_front quote escaped (byte ∷ bytes) n h =
     let parts = step_some (is_line_end byte) (eqb byte quote && not escaped) (to_quote quote (eqb byte 92 && not escaped) bytes) n h in
     elim parts.1 [
-      | inl at ↦ rw at.1 (here_step (is_line_end byte) (eqb byte quote && not escaped) _ parts.0 at.0)
+      | inl at ↦ rw at.1 (here_step (is_line_end byte) (eqb byte quote && not escaped) (to_quote quote (eqb byte 92 && not escaped) []) parts.0 at.0)
       | inr later ↦
         rw later.1.2 (later_step (is_line_end byte) (eqb byte quote && not escaped) _ later.1.0 parts.0 later.0
         (closed_front quote (eqb byte 92 && not escaped) bytes later.1.0 later.1.1))
