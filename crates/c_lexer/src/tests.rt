@@ -34,8 +34,8 @@ fn tokens_of_a_short_file(rt: HostRuntime) -> Result<(), Fail> {
     let Ok(tokens) = lex(alloc, b"int f(int n) {\n  return n <= 10;\n}\n") else {
         return Err(Fail::from("refused"));
     };
-    assert_eq!(rt; tokens.len(), wanted.len());
-    for (got, token) in tokens.iter().zip(&wanted) {
+    assert_eq!(rt; tokens.list.len(), wanted.len());
+    for (got, token) in tokens.list.iter().zip(&wanted) {
         assert!(rt; got == token);
     }
     Ok(())
@@ -90,8 +90,8 @@ fn the_longest_token_counts(rt: HostRuntime) -> Result<(), Fail> {
     let Ok(tokens) = lex(alloc, b"x+++++y <<== .5 int8 2147483647") else {
         return Err(Fail::from("refused"));
     };
-    assert_eq!(rt; tokens.len(), wanted.len());
-    for (got, token) in tokens.iter().zip(&wanted) {
+    assert_eq!(rt; tokens.list.len(), wanted.len());
+    for (got, token) in tokens.list.iter().zip(&wanted) {
         assert!(rt; got == token);
     }
     Ok(())
