@@ -1,3 +1,5 @@
 pub mod PlaceLemmas
 pub mod StartLemmas
 pub mod PieceLemmas
+pub mod DefineLemmas
+pub mod LineLemmas

@@ -103,6 +103,10 @@ is_apart after (piece ∷ pieces) = nat_lt after piece.start
 abbrev pub may_be_defined : List ℕ → Piece → Bool
 may_be_defined bytes name = is_word_class name.class && not (is_built_in (piece_text bytes name))
 
+-- a name that may be defined, apart from the body of a define
+abbrev pub is_definition : List ℕ → Bool → Piece → List Piece → Bool
+is_definition bytes whole name body = may_be_defined bytes name && whole && is_apart name.end body && is_body 0 body
+
 -- a name is defined that wasn't, or again so
 abbrev pub defines : List ℕ → Option (List Piece) → Piece → List Piece → Result (Option Piece) Cause
 defines bytes None name body = Ok (Some name)
@@ -113,7 +117,7 @@ abbrev pub define_result : List ℕ → List Definition → Bool → List Piece 
 define_result bytes ds whole [] = Err BadDirective
 define_result bytes ds whole (name ∷ body) =
     if is_name_class name.class
-    then (if may_be_defined bytes name && whole && is_apart name.end body && is_body 0 body then defines bytes (defined_as ds (piece_text bytes name)) name body else Err BadDefine)
+    then (if is_definition bytes whole name body then defines bytes (defined_as ds (piece_text bytes name)) name body else Err BadDefine)
     else Err BadDirective
 
 -- What a directive of these tokens does: the name that it defines newly, if any. Whole says that the line was cut to its end.

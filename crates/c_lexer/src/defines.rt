@@ -148,7 +148,14 @@ fn is_constant_class(class: TokenClass) -> bool
 fn is_closed(count: usize, pieces: &[Piece]) -> bool
     ensures { result ≡ spec.is_closed count pieces.now }
 {
-    pieces.iter().all(|piece| is_right(piece.class)) && pieces.len() == count
+    let mut rest = pieces;
+    'pieces: while let [piece, more @ ..] = rest {
+        if !is_right(piece.class) {
+            return false;
+        }
+        rest = more;
+    }
+    pieces.len() == count
 }
 
 /// Whether these are a constant and so many `)`.

@@ -1,12 +1,13 @@
 //! Directives, each on a line of its own (C 6.10).
 
-ghost use Rattle.std.specs.Prelude.{◌≡◌, ◌<◌, ◌≤◌, ◌+◌, drop, length, option_map, All, Err, IfErr, IfSome, OnOk};
+ghost use Rattle.std.specs.Prelude.{◌≡◌, ◌<◌, ◌≤◌, ◌+◌, ◌++◌, ◌∷◌, [], drop, length, option_map, All, None, Ok, Err, IfErr, IfSome, OnOk};
 ghost use Rattle.std.specs.List.{prefix_len};
 ghost use Rattle.c_tokens.specs.Bytes as bytes;
 ghost use Rattle.c_lexer.specs.Lines as spec;
 ghost use Rattle.c_lexer.specs.Lines.{ReadsLine, TakesLine};
-ghost use Rattle.c_lexer.specs.Defines.{BodiesStand};
-ghost use Rattle.c_lexer.specs.Pieces.{PieceStands, text_between};
+ghost use Rattle.c_lexer.specs.declared.lines.Stop.TheVariants as stop;
+ghost use Rattle.c_lexer.specs.Defines.{BodiesStand, defined_as};
+ghost use Rattle.c_lexer.specs.Pieces.{PieceStands, piece_text, text_between};
 ghost use Rattle.c_lexer.specs.Stops.{IfWrong};
 
 use crate::comments::leaves_comment_open;
@@ -151,6 +152,14 @@ fn may_be_defined(bytes: &[u8], name: &Piece) -> bool
     is_word_class(name.class) && !is_built_in(piece_text(bytes, name))
 }
 
+/// Whether this is a name that may be defined, apart from the body of a define.
+fn is_definition(bytes: &[u8], whole: bool, name: &Piece, body: &[Piece]) -> bool
+    requires { PieceStands bytes.now name.now }
+    ensures { result ≡ spec.is_definition bytes.now whole name.now body.now }
+{
+    may_be_defined(bytes, name) && whole && is_apart(name.end, body) && is_body(body)
+}
+
 /// A name is defined that wasn't, or again so.
 fn define_as(
     bytes: &[u8],
@@ -160,7 +169,7 @@ fn define_as(
 ) -> Result<Option<Piece>, Cause>
     requires old { IfSome old (λ old. All (PieceStands bytes.now) old.now) }
     requires body { All (PieceStands bytes.now) body.now }
-    ensures { result ≡ spec.defines bytes.now (option_map (λ old. old.now) old) name.now body.now }
+    ensures { result ≡ spec.defines bytes.now (option_map (λ old. old.now) old.entry) name.now body.now }
 {
     match old {
         Some(old) => {
@@ -190,11 +199,7 @@ fn define(
             if !is_name_class(name.class) {
                 return Err(Cause::BadDirective);
             }
-            let good = may_be_defined(bytes, name)
-                && whole
-                && is_apart(name.end, body)
-                && is_body(body);
-            if !good {
+            if !is_definition(bytes, whole, name, body) {
                 return Err(Cause::BadDefine);
             }
             define_as(bytes, defines.body(piece_text(bytes, name)), name, body)
@@ -229,12 +234,17 @@ fn directive_result(
     }
 }
 
-fn at_the_hash(cause: Cause) -> Stop {
+fn at_the_hash(cause: Cause) -> Stop
+    ensures { result ≡ stop.Wrong (record { offset = 0; cause = cause }) }
+{
     Stop::Wrong(Wrong { offset: 0, cause })
 }
 
-/// What is wrong in a line marker, if anything.
-fn marker(line: &[u8]) -> Result<(), Stop> {
+/// Takes a line marker, unless a byte of it is wrong.
+fn marker(line: &[u8]) -> Result<(), Stop>
+    ensures good { OnOk result (spec.marker_result line.now ≡ Ok None) }
+    ensures wrong { IfErr result (IfWrong (λ wrong. spec.marker_result line.now ≡ Err wrong)) }
+{
     let offset = good_length(line);
     if offset < line.len() {
         return Err(Stop::Wrong(Wrong {
@@ -263,7 +273,10 @@ pub fn directive<'a>(
 {
     let line = &bytes[at..end];
     if is_marker(line) {
-        return marker(line);
+        match marker(line) {
+            Ok(()) => return Ok(()),
+            Err(stop) => return Err(stop),
+        }
     }
     if leaves_comment_open(line) {
         return Err(at_the_hash(Cause::BadDirective));
@@ -274,11 +287,15 @@ pub fn directive<'a>(
     };
     match directive_result(bytes, defines, pieces.whole, &pieces.pieces) {
         Ok(None) => Ok(()),
-        Ok(Some(name)) => add(alloc, bytes, &name, &pieces.pieces, defines),
+        Ok(Some(name)) => {
+            add(alloc, bytes, &name, &pieces.pieces, defines)?;
+            Ok(())
+        }
         Err(cause) => Err(at_the_hash(cause)),
     }
 }
 
+/// Defines the name as the tokens behind the first two.
 fn add<'a>(
     alloc: Global,
     bytes: &'a [u8],
@@ -286,6 +303,11 @@ fn add<'a>(
     pieces: &[Piece],
     defines: &mut Defines<'a>,
 ) -> Result<(), Stop>
+    requires name { PieceStands bytes.now name.now }
+    requires two { 2 ≤ length pieces.now }
+    requires new { defined_as defines.old (piece_text bytes.now name.now) ≡ None }
+    ensures added { OnOk result (defines.new ≡ defines.old ++ record { name = piece_text bytes.now name.now; body = drop 2 pieces.now } ∷ []) }
+    ensures memory { IfErr result (λ why. why ≡ stop.Memory) }
 {
     let body = match Vec::from_slice(alloc, &pieces[2..]) {
         Ok(body) => body,
