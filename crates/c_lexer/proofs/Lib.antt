@@ -3,3 +3,4 @@ pub mod StartLemmas
 pub mod PieceLemmas
 pub mod DefineLemmas
 pub mod LineLemmas
+pub mod ReadingLemmas

@@ -24,3 +24,7 @@ next_place place byte =
 -- the spot one byte further on
 abbrev pub after_byte : Spot → ℕ → Spot
 after_byte spot byte = record { place = next_place spot.place byte; blank = is_line_end byte || (spot.blank && is_space byte) }
+
+-- the spot after these bytes
+abbrev pub spot_after : List ℕ → Spot
+spot_after seen = record { place = place_after seen; blank = ends_blank seen }

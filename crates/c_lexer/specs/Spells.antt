@@ -36,11 +36,14 @@ abbrev pub standing_for : Option (List Piece) → List Piece → List Piece
 standing_for None pieces = pieces
 standing_for (Some body) pieces = body
 
--- the tokens that come of what stands at this place
+-- the tokens of what stands between two places
+abbrev pub stood : List ℕ → List Definition → Option TokenClass → ℕ → ℕ → List Piece
+stood bytes ds None first after = []
+stood bytes ds (Some class) first after = standing_for (defined_as ds (text_between bytes first after)) (piece_of (Some class) first after)
+
+-- the same, each met at the first place
 abbrev pub given : List ℕ → Point → Option TokenClass → ℕ → List Token
-given bytes from None length = []
-given bytes from (Some class) length =
-    map (met_at (place_after (take from.at bytes))) (standing_for (defined_as from.defines (text_between bytes from.at (from.at + length))) (piece_of (Some class) from.at (from.at + length)))
+given bytes from class length = map (met_at (place_after (take from.at bytes))) (stood bytes from.defines class from.at (from.at + length))
 
 -- White space, a comment, a token or a directive stands at the point, these tokens come of it, and the next point is behind it.
 pub data Steps (bytes : List ℕ) (from : Point) : List Token → Point → Type 0 where
@@ -82,12 +85,21 @@ pub record IsRefused (bytes : List ℕ) (place : Place) (cause : Cause) : Type 0
   pub few : length tokens ≤ max_tokens
   pub stuck : IsStuck bytes reached (length tokens) place cause
 
+-- the fault is want of memory, or a place and a cause of which this is said
+abbrev pub IfRefused : (Place → Cause → Type 0) → Fault → Type 0
+IfRefused Says (Refused place cause) = Says place cause
+IfRefused Says Memory = Unit {0}
+
 -- the fault is want of memory, or tells the first place that is wrong
 abbrev pub IsFaultOf : List ℕ → Fault → Type 0
-IsFaultOf bytes (Refused place cause) = IsRefused bytes place cause
-IsFaultOf bytes Memory = Unit {0}
+IsFaultOf bytes = IfRefused (IsRefused bytes)
 
 -- the fault is want of memory, or the bytes spell nothing, or too many tokens
 abbrev pub HasNoTokens : List ℕ → Fault → Type 0
-HasNoTokens bytes (Refused place cause) = (tokens : List Token) → Spells bytes tokens → length tokens ≤ max_tokens → ⊥
-HasNoTokens bytes Memory = Unit {0}
+HasNoTokens bytes = IfRefused (λ _ _. (tokens : List Token) → Spells bytes tokens → length tokens ≤ max_tokens → ⊥)
+
+-- one step on, by which these tokens become those
+pub record Goes (bytes : List ℕ) (from next : Point) (tokens later : List Token) : Type 0 where
+  pub first : List Token
+  pub steps : Steps bytes from first next
+  pub joined : later ≡ tokens ++ first
