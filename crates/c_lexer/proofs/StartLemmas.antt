@@ -67,7 +67,7 @@ nothing_in_empty n class (token front e is) = let some = is.some in let within =
 front_same : (text : List ℕ) (f g : Front) → IsFront text f → IsFront text g → (f.length ≡ g.length) × (f.class ≡ g.class)
 front_same text f g is too =
     let one = only_token (take f.length text) (take g.length text) (drop f.length text) (drop g.length text) f.class g.class
-        (take-append-drop f.length text ∙ sym (take-append-drop g.length text)) is.token too.token in
+    (take-append-drop f.length text ∙ sym (take-append-drop g.length text)) is.token too.token in
     (sym (length-take-le f.length text is.within) ∙ ap length one.0 ∙ length-take-le g.length text too.within, one.1)
 
 pub same_first : {text : List ℕ} {n m : ℕ} {c d : Option TokenClass} → StandsFirst text n c → StandsFirst text m d → (n ≡ m) × (c ≡ d)

@@ -93,11 +93,8 @@ fn is_open_comment(inside: Inside) -> bool
 {
     match inside {
         Inside::Comment | Inside::Star => true,
-        Inside::Text
-        | Inside::Slash
-        | Inside::LineComment
-        | Inside::Quote(_)
-        | Inside::Escape(_) => false,
+        Inside::Text | Inside::Slash | Inside::LineComment | Inside::Quote(_) | Inside::Escape(_) =>
+            false,
     }
 }
 

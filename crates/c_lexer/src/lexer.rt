@@ -201,7 +201,15 @@ fn put(
         None => Ok(()),
         Some(class) => match defines.body(&bytes[start..next]) {
             Some(body) => add(body, place, tokens),
-            None => add_one(Piece { class, start, end: next }, place, tokens),
+            None => add_one(
+                Piece {
+                    class,
+                    start,
+                    end: next,
+                },
+                place,
+                tokens,
+            ),
         },
     }
 }

@@ -75,7 +75,9 @@ fn is_marker(line: &[u8]) -> bool
 fn is_header(text: &[u8]) -> bool
     ensures { result ≡ spec.is_header text.now }
 {
-    text == "<stdint.h>".as_bytes() || text == "<stdbool.h>".as_bytes() || text == "<stddef.h>".as_bytes()
+    text == "<stdint.h>".as_bytes()
+        || text == "<stdbool.h>".as_bytes()
+        || text == "<stddef.h>".as_bytes()
 }
 
 /// Where the last of the pieces ends, if there is one.

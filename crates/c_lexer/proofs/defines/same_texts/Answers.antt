@@ -21,7 +21,8 @@ pieces-preserved c =
     let same : bytes_eq (piece_text bytes x) (piece_text bytes y) ≡ true =
     ap (λ t. bytes_eq t (piece_text bytes y)) (sym c.piece_text.ensures) ∙ ap (λ t. bytes_eq c.piece_text.result.now t) (sym c.piece_text-in-Some-split_first.ensures) ∙ read in
     let left = c.in-Some.ensures.cases.0 in
-    let right = c.in-Some-split_first.ensures.cases.0 in
-    (same_step bytes c.pieces.left.now c.pieces.right.now x y c.in-Some.later.now c.in-Some-split_first.more.now left right same ∙ c.pieces.invariant.0,
-     rest_of_all bytes x c.in-Some.later.now c.pieces.left.now left c.pieces.invariant.1,
-     rest_of_all bytes y c.in-Some-split_first.more.now c.pieces.right.now right c.pieces.invariant.2)
+    let right = c.in-Some-split_first.ensures.cases.0 in (
+      same_step bytes c.pieces.left.now c.pieces.right.now x y c.in-Some.later.now c.in-Some-split_first.more.now left right same ∙ c.pieces.invariant.0,
+      rest_of_all bytes x c.in-Some.later.now c.pieces.left.now left c.pieces.invariant.1,
+      rest_of_all bytes y c.in-Some-split_first.more.now c.pieces.right.now right c.pieces.invariant.2,
+    )

@@ -14,9 +14,10 @@ pieces-preserved c =
     let stop = c.pieces.stop in
     let stands = subst (λ text. StandsFirst text c.in-Ok.first.length c.in-Ok.first.class) (take_rest bytes stop) c.in-Ok.ensures.stands in
     let left = length-drop stop bytes in
-    let shown = length-take (length bytes - stop) (drop stop bytes) in
-    (subst (λ ps. CutsTo bytes (stop + c.in-Ok.first.length) c.args.at ps) (sym c.in_ok-put-in-Ok.ensures) (cuts_more c.pieces.invariant.0 stands),
-     omega (arith, c.in-Ok.ensures.within, left, shown, c.pieces-test.true))
+    let shown = length-take (length bytes - stop) (drop stop bytes) in (
+      subst (λ ps. CutsTo bytes (stop + c.in-Ok.first.length) c.args.at ps) (sym c.in_ok-put-in-Ok.ensures) (cuts_more c.pieces.invariant.0 stands),
+      omega (arith, c.in-Ok.ensures.within, left, shown, c.pieces-test.true),
+    )
 
 pub returns-in-Err : goal.returns-in-Err
 returns-in-Err c =
