@@ -4,6 +4,7 @@
 mod classes;
 mod fault;
 mod grammar;
+pub mod laws;
 mod names;
 mod reader;
 mod terminals;
