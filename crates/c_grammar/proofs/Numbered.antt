@@ -40,16 +40,16 @@ stands p (name ∷ names) found = cases (p name) refl (stands p names)
     cases false is later =
         let behind : list_any p names ≡ true = sym (ap (λ (b : Bool). b || list_any p names) is) ∙ found in
         let it = later behind in
-        (it.0, ap (λ (b : Bool). slice_get (name ∷ names) (cond (not b) (1 + position_or_len p names) 0)) is ∙ it.1.0, it.1.1)
+        (it.0, ap (λ (b : Bool). slice_get (name ∷ names) (cond (not b) (1 + position_or_len p names) 0)) is ∙ it.1, it.2)
 
 same_text : (a b : List ℕ) (names : List (List ℕ)) → list_any (bytes_eq a) names ≡ true → list_any (bytes_eq b) names ≡ true →
     position_or_len (bytes_eq a) names ≡ position_or_len (bytes_eq b) names → a ≡ b
 same_text a b names with_a with_b e =
     let first = stands (bytes_eq a) names with_a in
     let second = stands (bytes_eq b) names with_b in
-    let found : Some first.0 ≡ Some second.0 = sym first.1.0 ∙ ap (slice_get names) e ∙ second.1.0 in
+    let found : Some first.0 ≡ Some second.0 = sym first.1 ∙ ap (slice_get names) e ∙ second.1 in
     let same : first.0 ≡ second.0 = cc in
-    (bytes_eq-Decides a first.0).0 first.1.1 ∙ same ∙ sym ((bytes_eq-Decides b second.0).0 second.1.1)
+    (bytes_eq-Decides a first.0).0 first.2 ∙ same ∙ sym ((bytes_eq-Decides b second.0).0 second.2)
 
 pub numbered : (bytes : List ℕ) (tokens : List Token) → AreNumbered bytes tokens
 numbered bytes tokens = λ i j a b x y ea eb ex ey wa wb. cases i j a b x y ea eb wa wb (name_at names bytes tokens i a x ea ex wa) (name_at names bytes tokens j b y eb ey wb)

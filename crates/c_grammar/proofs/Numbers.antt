@@ -47,7 +47,7 @@ true_text : (text : List ℕ) → bytes_eq text text ≡ true
 true_text text = (bytes_eq-Decides text text).1 refl
 
 -- the first name that passes stands no later than a name that passes
-at_front : (p : List ℕ → Bool) (names rest : List (List ℕ)) (name : List ℕ) → p name ≡ true → position_or_len p (names ++ name ∷ rest) ≡ position_or_len p names
+pub at_front : (p : List ℕ → Bool) (names rest : List (List ℕ)) (name : List ℕ) → p name ≡ true → position_or_len p (names ++ name ∷ rest) ≡ position_or_len p names
 at_front p [] rest name is = ap (λ (b : Bool). cond (not b) (1 + prefix_len (λ (x : List ℕ). not (p x)) rest) 0) is
 at_front p (other ∷ names) rest name is = ap (λ (n : ℕ). cond (not (p other)) (1 + n) 0) (at_front p names rest name is)
 
