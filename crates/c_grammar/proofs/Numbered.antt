@@ -40,7 +40,8 @@ stands p (name ∷ names) found = cases (p name) refl (stands p names)
     cases false is later =
         let behind : list_any p names ≡ true = sym (ap (λ (b : Bool). b || list_any p names) is) ∙ found in
         let it = later behind in
-        (it.0, ap (λ (b : Bool). slice_get (name ∷ names) (cond (not b) (1 + position_or_len p names) 0)) is ∙ it.1, it.2)
+        let next : 1 + position_or_len p names ≡ suc (position_or_len p names) = omega arith in
+        (it.0, ap (λ (b : Bool). slice_get (name ∷ names) (cond (not b) (1 + position_or_len p names) 0)) is ∙ ap (slice_get (name ∷ names)) next ∙ it.1, it.2)
 
 same_text : (a b : List ℕ) (names : List (List ℕ)) → list_any (bytes_eq a) names ≡ true → list_any (bytes_eq b) names ≡ true →
     position_or_len (bytes_eq a) names ≡ position_or_len (bytes_eq b) names → a ≡ b
