@@ -1,5 +1,5 @@
 -- A base whose tokens are being read (C 6.7).
-use Rattle.std.specs.Prelude.{false, List, [], Option, Some, None, option_map}
+use Rattle.std.specs.Prelude.{false, List, [], Option, Some, None}
 use Rattle.rvt_tree.specs.declared.places.Place.{Place}
 use Rattle.c_syntax.specs.declared.bases.Base.{Base}
 use Rattle.c_syntax.specs.declared.bases.Specifier.{Specifier}
@@ -24,6 +24,11 @@ abbrev pub specifier_of : List TypeWord → Option Specifier → Specifier
 specifier_of words None = S.Words words
 specifier_of words (Some tag) = tag
 
+-- the place of its first token; each base has one
+abbrev pub place_of : Option Place → Place
+place_of None = record { line = 1; column = 1 }
+place_of (Some place) = place
+
 -- the base, all of whose tokens were read
-abbrev pub base_of : HalfBase → Option Base
-base_of b = option_map (λ place. record { place = place; constant = b.constant; specifier = specifier_of b.words b.tag }) b.place
+abbrev pub base_of : HalfBase → Base
+base_of b = record { place = place_of b.place; constant = b.constant; specifier = specifier_of b.words b.tag }

@@ -1,5 +1,5 @@
 -- What each action on expressions makes of what was read: `None` where a value is missing.
-use Rattle.std.specs.Prelude.{ℕ, List, [], ◌∷◌, ◌++◌, Option, Some, None, option_map}
+use Rattle.std.specs.Prelude.{ℕ, List, [], ◌∷◌, ◌++◌, Option, Some, None}
 use Rattle.rvt_tree.specs.declared.places.Place.{Place}
 use Rattle.c_syntax.specs.Syntax as syntax
 use Rattle.c_syntax.specs.Syntax.{Expression, identifier, arguments_of}
@@ -26,7 +26,7 @@ name v = name_by v.kept v
 
 -- the constant that was read last
 abbrev pub constant : TokenClass → Place → OperandValues → Option OperandValues
-constant class place v = option_map (λ e. record v { expressions = e ∷ v.expressions }) (constant_of class place)
+constant class place v = Some (record v { expressions = constant_of class place ∷ v.expressions })
 
 -- ---- calls
 
@@ -63,7 +63,7 @@ parenthesized v = parenthesized_by v.kept v.expressions v
 abbrev pub unary_by : List Kept → List Expression → OperandValues → Option OperandValues
 unary_by [] es v = None
 unary_by (token ∷ kept) [] v = None
-unary_by (token ∷ kept) (e ∷ es) v = option_map (λ operator. record v { kept = kept; expressions = syntax.unary operator token.word.place e ∷ es }) (prefix_of token.class)
+unary_by (token ∷ kept) (e ∷ es) v = Some (record v { kept = kept; expressions = syntax.unary (prefix_of token.class) token.word.place e ∷ es })
 
 abbrev pub unary : OperandValues → Option OperandValues
 unary v = unary_by v.kept v.expressions v
@@ -114,7 +114,7 @@ abbrev pub binary_by : List Kept → List Expression → OperandValues → Optio
 binary_by [] es v = None
 binary_by (token ∷ kept) [] v = None
 binary_by (token ∷ kept) (right ∷ []) v = None
-binary_by (token ∷ kept) (right ∷ left ∷ es) v = option_map (λ operator. record v { kept = kept; expressions = syntax.binary operator token.word.place left right ∷ es }) (infix_of token.class)
+binary_by (token ∷ kept) (right ∷ left ∷ es) v = Some (record v { kept = kept; expressions = syntax.binary (infix_of token.class) token.word.place left right ∷ es })
 
 abbrev pub binary : OperandValues → Option OperandValues
 binary v = binary_by v.kept v.expressions v

@@ -1,5 +1,5 @@
 -- What each action on types makes of what was read: `None` where a value is missing.
-use Rattle.std.specs.Prelude.{ℕ, true, false, List, [], ◌∷◌, ◌++◌, Option, Some, None, option_map}
+use Rattle.std.specs.Prelude.{ℕ, true, false, List, [], ◌∷◌, ◌++◌, Option, Some, None}
 use Rattle.rvt_tree.specs.declared.places.Place.{Place}
 use Rattle.c_syntax.specs.declared.bases.Pointer.{Pointer}
 use Rattle.c_syntax.specs.declared.bases.Specifier.{Specifier}
@@ -22,27 +22,27 @@ abbrev pub new_base : TypeValues → Option TypeValues
 new_base v = Some (record v { bases = empty_base ∷ v.bases })
 
 -- the base that is being read becomes another
-abbrev pub base_becomes : (HalfBase → Option HalfBase) → List HalfBase → TypeValues → Option TypeValues
+abbrev pub base_becomes : (HalfBase → HalfBase) → List HalfBase → TypeValues → Option TypeValues
 base_becomes changed [] v = None
-base_becomes changed (base ∷ bases) v = option_map (λ new. record v { bases = new ∷ bases }) (changed base)
+base_becomes changed (base ∷ bases) v = Some (record v { bases = changed base ∷ bases })
 
 -- the word `struct` or `enum`
 abbrev pub begin : Place → TypeValues → Option TypeValues
-begin place v = base_becomes (λ base. Some (begun_at place base)) v.bases v
+begin place v = base_becomes (begun_at place) v.bases v
 
 -- `const` in a base
 abbrev pub constant : Place → TypeValues → Option TypeValues
-constant place v = base_becomes (λ base. Some (record (begun_at place base) { constant = true })) v.bases v
+constant place v = base_becomes (λ base. record (begun_at place base) { constant = true }) v.bases v
 
 abbrev pub type_word : TokenClass → Place → TypeValues → Option TypeValues
-type_word class place v = base_becomes (λ base. option_map (λ word. record (begun_at place base) { words = base.words ++ word ∷ [] }) (type_word_of class)) v.bases v
+type_word class place v = base_becomes (λ base. record (begun_at place base) { words = base.words ++ type_word_of class ∷ [] }) v.bases v
 
 -- the name of a typedef
 abbrev pub named : List ℕ → Place → TypeValues → Option TypeValues
-named text place v = base_becomes (λ base. Some (record (begun_at place base) { tag = Some (S.Named (word_at text place)) })) v.bases v
+named text place v = base_becomes (λ base. record (begun_at place base) { tag = Some (S.Named (word_at text place)) }) v.bases v
 
 abbrev pub tag : Specifier → TypeValues → Option TypeValues
-tag specifier v = base_becomes (λ base. Some (record base { tag = Some specifier })) v.bases v
+tag specifier v = base_becomes (λ base. record base { tag = Some specifier }) v.bases v
 
 abbrev pub struct_tag : List ℕ → Place → TypeValues → Option TypeValues
 struct_tag text place v = tag (S.Struct (Some (word_at text place))) v
@@ -66,10 +66,13 @@ abbrev pub no_pointer : TypeValues → Option TypeValues
 no_pointer v = Some (record v { pointers = None ∷ v.pointers })
 
 -- `const` after it
+abbrev pub constant_pointer : Option Pointer → Option Pointer
+constant_pointer None = None
+constant_pointer (Some p) = Some (record { place = p.place; constant = true })
+
 abbrev pub pointer_constant_by : List (Option Pointer) → TypeValues → Option TypeValues
 pointer_constant_by [] v = None
-pointer_constant_by (None ∷ pointers) v = None
-pointer_constant_by (Some p ∷ pointers) v = Some (record v { pointers = Some (record { place = p.place; constant = true }) ∷ pointers })
+pointer_constant_by (p ∷ pointers) v = Some (record v { pointers = constant_pointer p ∷ pointers })
 
 abbrev pub pointer_constant : TypeValues → Option TypeValues
 pointer_constant v = pointer_constant_by v.pointers v
@@ -92,7 +95,7 @@ type_name_by [] pointers lists v = None
 type_name_by (half ∷ bases) [] lists v = None
 type_name_by (half ∷ bases) (p ∷ pointers) [] v = None
 type_name_by (half ∷ bases) (p ∷ pointers) (list ∷ lists) v =
-    option_map (λ base. record { bases = bases; pointers = pointers; dims = lists; names = syntax.type_name base p (dimensions_of list) ∷ v.names }) (base_of half)
+    Some (record { bases = bases; pointers = pointers; dims = lists; names = syntax.type_name (base_of half) p (dimensions_of list) ∷ v.names })
 
 abbrev pub type_name : TypeValues → Option TypeValues
 type_name v = type_name_by v.bases v.pointers v.dims v

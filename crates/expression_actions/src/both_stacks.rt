@@ -6,7 +6,7 @@ ghost use Rattle.expression_actions.specs.Rules.{nothing_read};
 ghost use Rattle.expression_actions.specs.Follows.{Follows};
 ghost use Rattle.expression_actions.specs.Shown.{shown};
 
-use crate::faults::Fault;
+use crate::faults::{Fault, take};
 use crate::nodes;
 use crate::operand_stacks::Operands;
 use crate::type_stacks::Types;
@@ -35,8 +35,8 @@ impl Expressions {
     pub fn dim(&mut self) -> Result<(), Fault>
         ensures { Follows result (shown self.new) (rule.dim (shown self.old)) }
     {
-        let bracket = self.operands.kept.take()?;
-        let count = self.operands.expressions.take()?;
+        let bracket = take(&mut self.operands.kept)?;
+        let count = take(&mut self.operands.expressions)?;
         self.types.add_dim(Dim::Size(bracket.word.place, count))
     }
 
@@ -44,7 +44,7 @@ impl Expressions {
     pub fn open_dim(&mut self) -> Result<(), Fault>
         ensures { Follows result (shown self.new) (rule.open_dim (shown self.old)) }
     {
-        let bracket = self.operands.kept.take()?;
+        let bracket = take(&mut self.operands.kept)?;
         self.types.add_dim(Dim::Open(bracket.word.place))
     }
 
@@ -52,9 +52,9 @@ impl Expressions {
     pub fn cast(&mut self, alloc: Global) -> Result<(), Fault>
         ensures { Follows result (shown self.new) (rule.cast (shown self.old)) }
     {
-        let bracket = self.operands.kept.take()?;
-        let named = self.types.names.take()?;
-        let operand = self.operands.expressions.take()?;
+        let bracket = take(&mut self.operands.kept)?;
+        let named = take(&mut self.types.names)?;
+        let operand = take(&mut self.operands.expressions)?;
         let whole = nodes::cast(alloc, bracket.word.place, named, operand)?;
         self.operands.expressions.push(whole)?;
         Ok(())
@@ -64,9 +64,9 @@ impl Expressions {
     pub fn sizeof_type(&mut self, alloc: Global) -> Result<(), Fault>
         ensures { Follows result (shown self.new) (rule.sizeof_type (shown self.old)) }
     {
-        let _bracket = self.operands.kept.take()?;
-        let token = self.operands.kept.take()?;
-        let named = self.types.names.take()?;
+        let _bracket = take(&mut self.operands.kept)?;
+        let token = take(&mut self.operands.kept)?;
+        let named = take(&mut self.types.names)?;
         let whole = nodes::sizeof_type(alloc, token.word.place, named)?;
         self.operands.expressions.push(whole)?;
         Ok(())

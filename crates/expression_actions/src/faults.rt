@@ -1,5 +1,9 @@
 //! Why an action fails.
 
+ghost use Rattle.std.specs.Prelude.{◌≡◌, [], ◌∷◌, IfOk, OnErr};
+
+use value_stack::Stack;
+
 /// A value that it needs is not there.
 #[derive(Clone, Copy, Debug, PartialEq, Eq)]
 pub struct Missing;
@@ -41,5 +45,16 @@ impl<T: Drop> From<std::alloc::AllocFailed<T>> for Fault {
 
     fn from(_: std::alloc::AllocFailed<T>) -> Self {
         Fault::Memory
+    }
+}
+
+/// Takes the top of a stack, if there is one.
+pub fn take<T>(stack: &mut Stack<T>) -> Result<T, Missing>
+    ensures top { IfOk result (λ top. stack.old ≡ top ∷ stack.new) }
+    ensures missing { OnErr result (stack.old ≡ []) }
+{
+    match stack.pop() {
+        Some(top) => Ok(top),
+        None => Err(Missing),
     }
 }

@@ -1,13 +1,12 @@
 //! A base whose tokens are being read.
 
-ghost use Rattle.std.specs.Prelude.{◌≡◌, Some, None, IfOk, OnErr, OnOk};
+ghost use Rattle.std.specs.Prelude.{◌≡◌};
 ghost use Rattle.expression_actions.specs.Bases as spec;
 
-use crate::faults::{Fault, Missing};
 use c_syntax::{Base, Specifier, TypeWord};
 use rvt_tree::Place;
 use sqlite_items::Items;
-use std::alloc::{AllocError, Global};
+use std::alloc::Global;
 
 /// What has been read of a base: the place of its first token, its type words, and its tag or type name.
 #[derive(Drop)]
@@ -41,9 +40,8 @@ impl HalfBase {
     }
 
     /// The base, all of whose tokens were read.
-    pub fn finish(self) -> Result<Base, Missing>
-        ensures base { IfOk result (λ base. spec.base_of self ≡ Some base) }
-        ensures missing { OnErr result (spec.base_of self ≡ None) }
+    pub fn finish(self) -> Base
+        ensures { result ≡ spec.base_of self }
     {
         let HalfBase {
             place,
@@ -51,14 +49,21 @@ impl HalfBase {
             words,
             tag,
         } = self;
-        match place {
-            Some(place) => Ok(Base {
-                place,
-                constant,
-                specifier: specifier(words, tag),
-            }),
-            None => Err(Missing),
+        Base {
+            place: place_or_first(place),
+            constant,
+            specifier: specifier(words, tag),
         }
+    }
+}
+
+/// The place of its first token, which each base has.
+fn place_or_first(place: Option<Place>) -> Place
+    ensures { result ≡ spec.place_of place }
+{
+    match place {
+        Some(place) => place,
+        None => Place { line: 1, column: 1 },
     }
 }
 

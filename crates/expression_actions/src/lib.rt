@@ -7,16 +7,14 @@ mod half_bases;
 mod kept_tokens;
 mod nodes;
 mod operand_stacks;
-mod stack;
 mod token_words;
 mod type_stacks;
 
 pub use both_stacks::Expressions;
-pub use faults::{Fault, Missing};
+pub use faults::{Fault, Missing, take};
 pub use half_bases::HalfBase;
 pub use kept_tokens::{Kept, word};
 pub use operand_stacks::Operands;
-pub use stack::Stack;
 pub use token_words::{infix_of, prefix_of, setting_of, step_of, type_word_of};
 pub use type_stacks::Types;
 

@@ -1,27 +1,35 @@
 //! Expressions made of their parts.
 
-ghost use Rattle.std.specs.Prelude.{◌≡◌, option_map, IfOk};
+ghost use Rattle.std.specs.Prelude.{◌≡◌, IfOk};
 ghost use Rattle.c_syntax.specs.Syntax as syntax;
 ghost use Rattle.c_syntax.specs.Views.{expr_view, exprs_view, suffixes_view, casts_view, type_view};
 ghost use Rattle.expression_actions.specs.Nodes as spec;
 
 use c_syntax::{Casts, Expr, Exprs, Infix, Prefix, Suffixes, TypeName, Word};
 use c_tokens::TokenClass;
+use rvt_num::{Kind, Num};
 use rvt_tree::Place;
 use std::alloc::{AllocError, Global};
 
 /// The constant that a token is.
-pub fn constant(class: TokenClass, place: Place) -> Option<Expr>
-    ensures { option_map expr_view result ≡ spec.constant_of class place }
+pub fn constant(class: TokenClass, place: Place) -> Expr
+    ensures { expr_view result ≡ spec.constant_of class place }
 {
     match class {
-        TokenClass::Constant(value) => Some(Expr::Constant(value, place)),
-        TokenClass::Character(value) => Some(Expr::Character(value, place)),
-        TokenClass::Word => None,
-        TokenClass::Keyword(_) => None,
-        TokenClass::Literal => None,
-        TokenClass::Punct(_) => None,
+        TokenClass::Constant(value) => Expr::Constant(value, place),
+        TokenClass::Character(value) => Expr::Character(value, place),
+        TokenClass::Word => zero(place),
+        TokenClass::Keyword(_) => zero(place),
+        TokenClass::Literal => zero(place),
+        TokenClass::Punct(_) => zero(place),
     }
+}
+
+/// A zero, where the grammar has no token.
+fn zero(place: Place) -> Expr
+    ensures { expr_view result ≡ spec.zero place }
+{
+    Expr::Constant(Num::wrapped(Kind::I32, 0), place)
 }
 
 pub fn call(alloc: Global, function: Word, arguments: Exprs) -> Result<Expr, AllocError>

@@ -6,15 +6,15 @@ ghost use Rattle.expression_actions.specs.OperandRules.{nothing_read};
 ghost use Rattle.expression_actions.specs.Follows.{Follows};
 ghost use Rattle.expression_actions.specs.Shown.{operands_shown};
 
-use crate::faults::Fault;
+use crate::faults::{Fault, take};
 use crate::kept_tokens::Kept;
 use crate::nodes;
-use crate::stack::Stack;
 use crate::token_words::{infix_of, prefix_of};
 use c_syntax::{Expr, builders};
 use c_tokens::TokenClass;
 use rvt_tree::Place;
 use std::alloc::Global;
+use value_stack::Stack;
 
 /// What was read of expressions and has no place in a tree yet.
 #[derive(Drop)]
@@ -56,7 +56,7 @@ impl Operands {
     pub fn name(&mut self) -> Result<(), Fault>
         ensures { Follows result (operands_shown self.new) (rule.name (operands_shown self.old)) }
     {
-        let Kept { word, .. } = self.kept.take()?;
+        let Kept { word, .. } = take(&mut self.kept)?;
         self.expressions.push(Expr::Name(word))?;
         Ok(())
     }
@@ -65,13 +65,8 @@ impl Operands {
     pub fn constant(&mut self, class: TokenClass, place: Place) -> Result<(), Fault>
         ensures { Follows result (operands_shown self.new) (rule.constant class place (operands_shown self.old)) }
     {
-        match nodes::constant(class, place) {
-            Some(constant) => {
-                self.expressions.push(constant)?;
-                Ok(())
-            }
-            None => Err(Fault::Missing),
-        }
+        self.expressions.push(nodes::constant(class, place))?;
+        Ok(())
     }
 
     // ---- calls
@@ -87,8 +82,8 @@ impl Operands {
     pub fn add_argument(&mut self) -> Result<(), Fault>
         ensures { Follows result (operands_shown self.new) (rule.add_argument (operands_shown self.old)) }
     {
-        let value = self.expressions.take()?;
-        let mut arguments = self.arguments.take()?;
+        let value = take(&mut self.expressions)?;
+        let mut arguments = take(&mut self.arguments)?;
         arguments.push(value)?;
         self.arguments.push(arguments)?;
         Ok(())
@@ -98,8 +93,8 @@ impl Operands {
     pub fn call(&mut self, alloc: Global) -> Result<(), Fault>
         ensures { Follows result (operands_shown self.new) (rule.call (operands_shown self.old)) }
     {
-        let Kept { word, .. } = self.kept.take()?;
-        let arguments = self.arguments.take()?;
+        let Kept { word, .. } = take(&mut self.kept)?;
+        let arguments = take(&mut self.arguments)?;
         let arguments = builders::arguments(alloc, arguments)?;
         self.expressions.push(nodes::call(alloc, word, arguments)?)?;
         Ok(())
@@ -111,8 +106,8 @@ impl Operands {
     pub fn parenthesized(&mut self, alloc: Global) -> Result<(), Fault>
         ensures { Follows result (operands_shown self.new) (rule.parenthesized (operands_shown self.old)) }
     {
-        let bracket = self.kept.take()?;
-        let inner = self.expressions.take()?;
+        let bracket = take(&mut self.kept)?;
+        let inner = take(&mut self.expressions)?;
         self.expressions.push(nodes::parenthesized(alloc, bracket.word.place, inner)?)?;
         Ok(())
     }
@@ -121,9 +116,9 @@ impl Operands {
     pub fn index(&mut self, alloc: Global) -> Result<(), Fault>
         ensures { Follows result (operands_shown self.new) (rule.index (operands_shown self.old)) }
     {
-        let bracket = self.kept.take()?;
-        let at = self.expressions.take()?;
-        let whole = self.expressions.take()?;
+        let bracket = take(&mut self.kept)?;
+        let at = take(&mut self.expressions)?;
+        let whole = take(&mut self.expressions)?;
         self.expressions.push(nodes::index(alloc, whole, bracket.word.place, at)?)?;
         Ok(())
     }
@@ -132,9 +127,9 @@ impl Operands {
     pub fn dot(&mut self, alloc: Global) -> Result<(), Fault>
         ensures { Follows result (operands_shown self.new) (rule.dot (operands_shown self.old)) }
     {
-        let Kept { word: field, .. } = self.kept.take()?;
-        let dot = self.kept.take()?;
-        let whole = self.expressions.take()?;
+        let Kept { word: field, .. } = take(&mut self.kept)?;
+        let dot = take(&mut self.kept)?;
+        let whole = take(&mut self.expressions)?;
         self.expressions.push(nodes::dot(alloc, whole, dot.word.place, field)?)?;
         Ok(())
     }
@@ -143,9 +138,9 @@ impl Operands {
     pub fn arrow(&mut self, alloc: Global) -> Result<(), Fault>
         ensures { Follows result (operands_shown self.new) (rule.arrow (operands_shown self.old)) }
     {
-        let Kept { word: field, .. } = self.kept.take()?;
-        let arrow = self.kept.take()?;
-        let whole = self.expressions.take()?;
+        let Kept { word: field, .. } = take(&mut self.kept)?;
+        let arrow = take(&mut self.kept)?;
+        let whole = take(&mut self.expressions)?;
         self.expressions.push(nodes::arrow(alloc, whole, arrow.word.place, field)?)?;
         Ok(())
     }
@@ -156,24 +151,20 @@ impl Operands {
     pub fn unary(&mut self, alloc: Global) -> Result<(), Fault>
         ensures { Follows result (operands_shown self.new) (rule.unary (operands_shown self.old)) }
     {
-        let token = self.kept.take()?;
-        let operand = self.expressions.take()?;
-        match prefix_of(token.class) {
-            Some(operator) => {
-                let whole = nodes::unary(alloc, operator, token.word.place, operand)?;
-                self.expressions.push(whole)?;
-                Ok(())
-            }
-            None => Err(Fault::Missing),
-        }
+        let token = take(&mut self.kept)?;
+        let operand = take(&mut self.expressions)?;
+        let operator = prefix_of(token.class);
+        let whole = nodes::unary(alloc, operator, token.word.place, operand)?;
+        self.expressions.push(whole)?;
+        Ok(())
     }
 
     /// `sizeof e`
     pub fn sizeof_expression(&mut self, alloc: Global) -> Result<(), Fault>
         ensures { Follows result (operands_shown self.new) (rule.sizeof_expression (operands_shown self.old)) }
     {
-        let token = self.kept.take()?;
-        let operand = self.expressions.take()?;
+        let token = take(&mut self.kept)?;
+        let operand = take(&mut self.expressions)?;
         self.expressions.push(nodes::sizeof_expression(alloc, token.word.place, operand)?)?;
         Ok(())
     }
@@ -182,27 +173,23 @@ impl Operands {
     pub fn binary(&mut self, alloc: Global) -> Result<(), Fault>
         ensures { Follows result (operands_shown self.new) (rule.binary (operands_shown self.old)) }
     {
-        let token = self.kept.take()?;
-        let right = self.expressions.take()?;
-        let left = self.expressions.take()?;
-        match infix_of(token.class) {
-            Some(operator) => {
-                let whole = nodes::binary(alloc, operator, token.word.place, left, right)?;
-                self.expressions.push(whole)?;
-                Ok(())
-            }
-            None => Err(Fault::Missing),
-        }
+        let token = take(&mut self.kept)?;
+        let right = take(&mut self.expressions)?;
+        let left = take(&mut self.expressions)?;
+        let operator = infix_of(token.class);
+        let whole = nodes::binary(alloc, operator, token.word.place, left, right)?;
+        self.expressions.push(whole)?;
+        Ok(())
     }
 
     /// `a ? b : c`
     pub fn conditional(&mut self, alloc: Global) -> Result<(), Fault>
         ensures { Follows result (operands_shown self.new) (rule.conditional (operands_shown self.old)) }
     {
-        let question = self.kept.take()?;
-        let second = self.expressions.take()?;
-        let first = self.expressions.take()?;
-        let test = self.expressions.take()?;
+        let question = take(&mut self.kept)?;
+        let second = take(&mut self.expressions)?;
+        let first = take(&mut self.expressions)?;
+        let test = take(&mut self.expressions)?;
         let whole = nodes::conditional(alloc, question.word.place, test, first, second)?;
         self.expressions.push(whole)?;
         Ok(())

@@ -1,6 +1,6 @@
 //! Texts as the grammar reads them.
 
-use crate::{Fault, Operands};
+use crate::{Fault, Operands, take};
 use c_syntax::{Expr, Infix, Suffixes};
 use c_tokens::{Punctuator, TokenClass};
 use rvt_tree::Place;
@@ -33,7 +33,7 @@ fn a_difference_is_read(rt: HostRuntime) {
     let alloc = rt.alloc();
     let mut operands = Operands::new(alloc);
     assert!(rt; difference(alloc, &mut operands).is_ok());
-    let Ok(Expr::Binary(operator, place, left, right)) = operands.expressions.take() else {
+    let Ok(Expr::Binary(operator, place, left, right)) = take(&mut operands.expressions) else {
         panic!(rt; "no difference")
     };
     assert_eq!(rt; operator, Infix::Subtract);

@@ -7,15 +7,15 @@ ghost use Rattle.expression_actions.specs.TypeRules.{no_types_read};
 ghost use Rattle.expression_actions.specs.Follows.{Follows};
 ghost use Rattle.expression_actions.specs.Shown.{types_shown};
 
-use crate::faults::Fault;
+use crate::faults::{Fault, take};
 use crate::half_bases::HalfBase;
 use crate::kept_tokens::word;
-use crate::stack::Stack;
 use crate::token_words::type_word_of;
 use c_syntax::{Dim, Pointer, Specifier, TypeName, builders};
 use c_tokens::TokenClass;
 use rvt_tree::Place;
 use std::alloc::Global;
+use value_stack::Stack;
 
 /// What was read of types and has no place in a tree yet.
 #[derive(Drop)]
@@ -54,7 +54,7 @@ impl Types {
     pub fn begin(&mut self, place: Place) -> Result<(), Fault>
         ensures { Follows result (types_shown self.new) (rule.begin place (types_shown self.old)) }
     {
-        let mut base = self.bases.take()?;
+        let mut base = take(&mut self.bases)?;
         base.begin(place);
         self.bases.push(base)?;
         Ok(())
@@ -64,7 +64,7 @@ impl Types {
     pub fn constant(&mut self, place: Place) -> Result<(), Fault>
         ensures { Follows result (types_shown self.new) (rule.constant place (types_shown self.old)) }
     {
-        let mut base = self.bases.take()?;
+        let mut base = take(&mut self.bases)?;
         base.begin(place);
         base.constant = true;
         self.bases.push(base)?;
@@ -75,23 +75,18 @@ impl Types {
     pub fn type_word(&mut self, class: TokenClass, place: Place) -> Result<(), Fault>
         ensures { Follows result (types_shown self.new) (rule.type_word class place (types_shown self.old)) }
     {
-        let mut base = self.bases.take()?;
-        match type_word_of(class) {
-            Some(type_word) => {
-                base.begin(place);
-                base.words.push(type_word)?;
-                self.bases.push(base)?;
-                Ok(())
-            }
-            None => Err(Fault::Missing),
-        }
+        let mut base = take(&mut self.bases)?;
+        base.begin(place);
+        base.words.push(type_word_of(class))?;
+        self.bases.push(base)?;
+        Ok(())
     }
 
     /// The name of a typedef.
     pub fn named(&mut self, alloc: Global, text: &[u8], place: Place) -> Result<(), Fault>
         ensures { Follows result (types_shown self.new) (rule.named text.now place (types_shown self.old)) }
     {
-        let mut base = self.bases.take()?;
+        let mut base = take(&mut self.bases)?;
         base.begin(place);
         base.tag = Some(Specifier::Named(word(alloc, text, place)?));
         self.bases.push(base)?;
@@ -131,7 +126,7 @@ impl Types {
     fn tag(&mut self, tag: Specifier) -> Result<(), Fault>
         ensures { Follows result (types_shown self.new) (rule.tag tag (types_shown self.old)) }
     {
-        let mut base = self.bases.take()?;
+        let mut base = take(&mut self.bases)?;
         base.tag = Some(tag);
         self.bases.push(base)?;
         Ok(())
@@ -159,14 +154,9 @@ impl Types {
     pub fn pointer_constant(&mut self) -> Result<(), Fault>
         ensures { Follows result (types_shown self.new) (rule.pointer_constant (types_shown self.old)) }
     {
-        match self.pointers.take()? {
-            Some(Pointer { place, .. }) => {
-                let constant = true;
-                self.pointers.push(Some(Pointer { place, constant }))?;
-                Ok(())
-            }
-            None => Err(Fault::Missing),
-        }
+        let pointer = take(&mut self.pointers)?;
+        self.pointers.push(constant_pointer(pointer))?;
+        Ok(())
     }
 
     // ---- dimensions and types
@@ -183,7 +173,7 @@ impl Types {
     pub fn add_dim(&mut self, dim: Dim) -> Result<(), Fault>
         ensures { Follows result (types_shown self.new) (rule.add_dim (dim_view dim) (types_shown self.old)) }
     {
-        let mut dims = self.dims.take()?;
+        let mut dims = take(&mut self.dims)?;
         dims.push(dim)?;
         self.dims.push(dims)?;
         Ok(())
@@ -193,9 +183,9 @@ impl Types {
     pub fn type_name(&mut self, alloc: Global) -> Result<(), Fault>
         ensures { Follows result (types_shown self.new) (rule.type_name (types_shown self.old)) }
     {
-        let base = self.bases.take()?.finish()?;
-        let pointer = self.pointers.take()?;
-        let dims = self.dims.take()?;
+        let base = take(&mut self.bases)?.finish();
+        let pointer = take(&mut self.pointers)?;
+        let dims = take(&mut self.dims)?;
         let dims = builders::dimensions(alloc, dims)?;
         self.names.push(TypeName {
             base,
@@ -204,4 +194,13 @@ impl Types {
         })?;
         Ok(())
     }
+}
+
+/// A pointer after whose `*` stands `const`.
+fn constant_pointer(pointer: Option<Pointer>) -> Option<Pointer>
+    ensures { result ≡ rule.constant_pointer pointer }
+{
+    let Pointer { place, .. } = pointer?;
+    let constant = true;
+    Some(Pointer { place, constant })
 }
