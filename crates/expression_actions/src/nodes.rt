@@ -116,7 +116,7 @@ struct Chain {
 }
 
 /// An expression as a primary expression and what follows it.
-fn chain(whole: Expr) -> Chain
+fn primary_and_suffixes(whole: Expr) -> Chain
     ensures primary { expr_view result.primary ≡ syntax.primary_of (expr_view whole) }
     ensures suffixes { suffixes_view result.suffixes ≡ syntax.suffixes_of (expr_view whole) }
 {
@@ -144,7 +144,7 @@ fn postfix(alloc: Global, primary: Expr, suffixes: Suffixes) -> Result<Expr, All
 pub fn index(alloc: Global, whole: Expr, place: Place, at: Expr) -> Result<Expr, AllocError>
     ensures { IfOk result (λ e. expr_view e ≡ spec.index_node place (expr_view at) (expr_view whole)) }
 {
-    let Chain { primary, suffixes } = chain(whole);
+    let Chain { primary, suffixes } = primary_and_suffixes(whole);
     let suffixes = Suffixes::Index(place, at, Box::new(alloc, suffixes)?);
     postfix(alloc, primary, suffixes)
 }
@@ -153,7 +153,7 @@ pub fn index(alloc: Global, whole: Expr, place: Place, at: Expr) -> Result<Expr,
 pub fn dot(alloc: Global, whole: Expr, place: Place, field: Word) -> Result<Expr, AllocError>
     ensures { IfOk result (λ e. expr_view e ≡ spec.dot_node place field (expr_view whole)) }
 {
-    let Chain { primary, suffixes } = chain(whole);
+    let Chain { primary, suffixes } = primary_and_suffixes(whole);
     let suffixes = Suffixes::Dot(place, field, Box::new(alloc, suffixes)?);
     postfix(alloc, primary, suffixes)
 }
@@ -162,7 +162,7 @@ pub fn dot(alloc: Global, whole: Expr, place: Place, field: Word) -> Result<Expr
 pub fn arrow(alloc: Global, whole: Expr, place: Place, field: Word) -> Result<Expr, AllocError>
     ensures { IfOk result (λ e. expr_view e ≡ spec.arrow_node place field (expr_view whole)) }
 {
-    let Chain { primary, suffixes } = chain(whole);
+    let Chain { primary, suffixes } = primary_and_suffixes(whole);
     let suffixes = Suffixes::Arrow(place, field, Box::new(alloc, suffixes)?);
     postfix(alloc, primary, suffixes)
 }
@@ -175,7 +175,7 @@ struct CastChain {
 }
 
 /// An expression as casts and what they cast.
-fn cast_chain(whole: Expr) -> CastChain
+fn casts_and_operand(whole: Expr) -> CastChain
     ensures casts { casts_view result.casts ≡ syntax.casts_of (expr_view whole) }
     ensures operand { expr_view result.operand ≡ syntax.operand_of (expr_view whole) }
 {
@@ -195,7 +195,7 @@ fn cast_chain(whole: Expr) -> CastChain
 pub fn cast(alloc: Global, place: Place, named: TypeName, whole: Expr) -> Result<Expr, AllocError>
     ensures { IfOk result (λ e. expr_view e ≡ spec.cast_node place (type_view named) (expr_view whole)) }
 {
-    let CastChain { casts, operand } = cast_chain(whole);
+    let CastChain { casts, operand } = casts_and_operand(whole);
     let TypeName {
         base,
         pointer,
