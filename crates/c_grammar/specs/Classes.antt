@@ -122,6 +122,8 @@ abbrev pub class_of : List ℕ → TokenClass → Class
 class_of text T.Word = word_class text
 class_of text (T.Keyword keyword) = keyword_class keyword
 class_of text (T.Constant value) = C.Constant
+class_of text (T.Character value) = C.Constant
+class_of text T.Literal = C.Other
 class_of text (T.Punct punctuator) = punctuator_class punctuator
 
 abbrev pub is_if : TokenClass → Bool
@@ -171,4 +173,5 @@ is_ellipsis _ = false
 abbrev pub is_left_out : TokenClass → Bool
 is_left_out (T.Keyword keyword) = is_left_out_keyword keyword
 is_left_out (T.Punct punctuator) = is_ellipsis punctuator
+is_left_out T.Literal = true
 is_left_out _ = false

@@ -157,6 +157,8 @@ pub fn class_of(text: &[u8], class: TokenClass) -> Class
         TokenClass::Word => word_class(text),
         TokenClass::Keyword(keyword) => keyword_class(keyword),
         TokenClass::Constant(_) => Class::Constant,
+        TokenClass::Character(_) => Class::Constant,
+        TokenClass::Literal => Class::Other,
         TokenClass::Punct(punctuator) => punctuator_class(punctuator),
     }
 }
@@ -242,6 +244,8 @@ pub fn is_left_out(class: TokenClass) -> bool
         TokenClass::Word => false,
         TokenClass::Keyword(keyword) => is_left_out_keyword(keyword),
         TokenClass::Constant(_) => false,
+        TokenClass::Character(_) => false,
+        TokenClass::Literal => true,
         TokenClass::Punct(punctuator) => is_ellipsis(punctuator),
     }
 }

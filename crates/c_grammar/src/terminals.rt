@@ -30,6 +30,8 @@ fn is_word(class: TokenClass) -> bool
         TokenClass::Word => true,
         TokenClass::Keyword(_) => false,
         TokenClass::Constant(_) => false,
+        TokenClass::Character(_) => false,
+        TokenClass::Literal => false,
         TokenClass::Punct(_) => false,
     }
 }

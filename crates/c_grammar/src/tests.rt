@@ -49,6 +49,7 @@ fn refusals(rt: HostRuntime) -> Result<(), Fail> {
     assert!(rt; is_refused(alloc, b"void f(void) { goto x; }", 16, Cause::NotInProfile, b"goto"));
     assert!(rt; is_refused(alloc, b"void f(void) { static int x; }", 16, Cause::NotInProfile, b"static"));
     assert!(rt; is_refused(alloc, b"typedef int T; int f(int a) { int T; }", 35, Cause::Unexpected, b"T"));
+    assert!(rt; is_refused(alloc, b"int f(void) { return \"x\"; }", 23, Cause::NotInProfile, b"\"x\""));
     assert!(rt; is_refused(alloc, b"int f(", 99, Cause::UnexpectedEnd, b""));
     Ok(())
 }
