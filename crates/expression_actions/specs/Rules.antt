@@ -6,7 +6,6 @@ use Rattle.expression_actions.specs.declared.kept_tokens.Kept.{Kept}
 use Rattle.expression_actions.specs.Nodes.{cast_node}
 use Rattle.expression_actions.specs.OperandRules as operand
 use Rattle.expression_actions.specs.Stacks.{OperandValues, TypeValues, Values}
-use Rattle.expression_actions.specs.TypeRules as types
 use Rattle.expression_actions.specs.TypeRules.{no_types_read, add_dim}
 
 -- before the first token

@@ -55,11 +55,7 @@ pub fn unary(
     Ok(Expr::Unary(operator, place, Box::new(alloc, operand)?))
 }
 
-pub fn sizeof_expression(
-    alloc: Global,
-    place: Place,
-    operand: Expr,
-) -> Result<Expr, AllocError>
+pub fn sizeof_expression(alloc: Global, place: Place, operand: Expr) -> Result<Expr, AllocError>
     ensures { IfOk result (λ e. expr_view e ≡ syntax.sizeof_expression place (expr_view operand)) }
 {
     Ok(Expr::SizeofExpr(place, Box::new(alloc, operand)?))

@@ -108,7 +108,8 @@ impl Operands {
     {
         let bracket = take(&mut self.kept)?;
         let inner = take(&mut self.expressions)?;
-        self.expressions.push(nodes::parenthesized(alloc, bracket.word.place, inner)?)?;
+        self.expressions
+            .push(nodes::parenthesized(alloc, bracket.word.place, inner)?)?;
         Ok(())
     }
 
@@ -119,7 +120,8 @@ impl Operands {
         let bracket = take(&mut self.kept)?;
         let at = take(&mut self.expressions)?;
         let whole = take(&mut self.expressions)?;
-        self.expressions.push(nodes::index(alloc, whole, bracket.word.place, at)?)?;
+        self.expressions
+            .push(nodes::index(alloc, whole, bracket.word.place, at)?)?;
         Ok(())
     }
 
@@ -130,7 +132,8 @@ impl Operands {
         let Kept { word: field, .. } = take(&mut self.kept)?;
         let dot = take(&mut self.kept)?;
         let whole = take(&mut self.expressions)?;
-        self.expressions.push(nodes::dot(alloc, whole, dot.word.place, field)?)?;
+        self.expressions
+            .push(nodes::dot(alloc, whole, dot.word.place, field)?)?;
         Ok(())
     }
 
@@ -141,7 +144,8 @@ impl Operands {
         let Kept { word: field, .. } = take(&mut self.kept)?;
         let arrow = take(&mut self.kept)?;
         let whole = take(&mut self.expressions)?;
-        self.expressions.push(nodes::arrow(alloc, whole, arrow.word.place, field)?)?;
+        self.expressions
+            .push(nodes::arrow(alloc, whole, arrow.word.place, field)?)?;
         Ok(())
     }
 

@@ -21,7 +21,12 @@ fn difference(alloc: Global, operands: &mut Operands) -> Result<(), Fault> {
     operands.keep(alloc, TokenClass::Punct(Punctuator::Minus), b"-", at(5))?;
     operands.keep(alloc, TokenClass::Word, b"c", at(7))?;
     operands.name()?;
-    operands.keep(alloc, TokenClass::Punct(Punctuator::LeftBracket), b"[", at(8))?;
+    operands.keep(
+        alloc,
+        TokenClass::Punct(Punctuator::LeftBracket),
+        b"[",
+        at(8),
+    )?;
     operands.keep(alloc, TokenClass::Word, b"d", at(9))?;
     operands.name()?;
     operands.index(alloc)?;
