@@ -1,0 +1,4 @@
+pub mod Lengths
+pub mod OperandLeaves
+pub mod TypeLeaves
+pub mod Leaves

@@ -1,0 +1,7 @@
+pub mod Stacks
+pub mod Moves
+pub mod DeclarationRules
+pub mod StatementRules
+pub mod ActRules
+pub mod ExternalRules
+pub mod Shown
