@@ -52,6 +52,7 @@ is_minus _ = false
 -- an integer constant or a character constant
 abbrev pub is_constant_class : TokenClass → Bool
 is_constant_class (class.Constant value) = true
+is_constant_class (class.Character value) = true
 is_constant_class _ = false
 
 -- so many `)` and nothing else

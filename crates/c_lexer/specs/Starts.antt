@@ -55,6 +55,7 @@ NothingFirst text = (length : ℕ) (class : Option TokenClass) → StandsFirst t
 abbrev pub no_token : NoToken → Wrong
 no_token (why.BadByte offset) = record { offset = offset; cause = cause.BadByte }
 no_token why.BadNumber = record { offset = 0; cause = cause.BadNumber }
+no_token why.BadCharacter = record { offset = 0; cause = cause.BadCharacter }
 
 -- Nothing stands first in the text, and this is wrong.
 pub data IsWrong (text : List ℕ) : Wrong → Type 0 where

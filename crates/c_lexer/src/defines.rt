@@ -139,7 +139,7 @@ fn is_constant_class(class: TokenClass) -> bool
     ensures { result ≡ spec.is_constant_class class }
 {
     match class {
-        TokenClass::Constant(_) => true,
+        TokenClass::Constant(_) | TokenClass::Character(_) => true,
         _ => false,
     }
 }

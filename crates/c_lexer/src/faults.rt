@@ -46,6 +46,10 @@ pub fn no_token(why: NoToken) -> Wrong
             offset: 0,
             cause: Cause::BadNumber,
         },
+        NoToken::BadCharacter => Wrong {
+            offset: 0,
+            cause: Cause::BadCharacter,
+        },
     }
 }
 

@@ -9,7 +9,7 @@ ghost use Rattle.c_lexer.specs.Lines.{TakesLine, line_end};
 ghost use Rattle.c_lexer.specs.Pieces.{PieceStands, piece_of};
 ghost use Rattle.c_lexer.specs.Places.{place_after, ends_blank, spot_after};
 ghost use Rattle.c_lexer.specs.Spells as spec;
-ghost use Rattle.c_lexer.specs.Spells.{Spells, Goes, IsStuck, IsFaultOf, HasNoTokens, IfRefused, max_tokens, met_at, stood};
+ghost use Rattle.c_lexer.specs.Spells.{Spells, Goes, IsStuck, IsFaultOf, IsOnlyFault, HasNoTokens, IfRefused, max_tokens, met_at, stood};
 ghost use Rattle.c_lexer.specs.Texts.{StandsIn};
 
 use crate::defines::Defines;
@@ -36,6 +36,7 @@ pub fn lex(alloc: Global, bytes: &[u8]) -> Result<Tokens, Fault>
     // Where the bytes are refused, they spell nothing, or too many tokens, and the place is the first from which nothing goes on.
     ensures none { IfErr result (HasNoTokens bytes.now) }
     ensures refused { IfErr result (IsFaultOf bytes.now) }
+    ensures first { IfErr result (IsOnlyFault bytes.now) }
 {
     let mut tokens = Vec::new(alloc);
     let mut defines = Defines::new(alloc);
@@ -214,8 +215,8 @@ fn put(
     }
 }
 
-fn met_at(piece: &Piece, place: Place) -> Token
-    ensures { result ≡ met_at place piece.now }
+fn met_at(piece: Piece, place: Place) -> Token
+    ensures { result ≡ met_at place piece }
 {
     Token {
         class: piece.class,
@@ -235,7 +236,7 @@ fn add_one(piece: Piece, place: Place, tokens: &mut Vec<Token>) -> Result<(), Fa
     if tokens.len() >= MAX_TOKENS {
         return Err(Fault::Refused(place, Cause::TooManyTokens));
     }
-    match tokens.push(met_at(&piece, place)) {
+    match tokens.push(met_at(piece, place)) {
         Ok(()) => Ok(()),
         Err(_) => Err(Fault::Memory),
     }
@@ -252,7 +253,7 @@ fn add(pieces: &[Piece], place: Place, tokens: &mut Vec<Token>) -> Result<(), Fa
         return Err(Fault::Refused(place, Cause::TooManyTokens));
     }
     'pieces: for piece in pieces {
-        match tokens.push(met_at(piece, place)) {
+        match tokens.push(met_at(*piece, place)) {
             Ok(()) => {}
             Err(_) => return Err(Fault::Memory),
         }

@@ -1,5 +1,6 @@
 use crate::{Cause, Fault, Place, Token, lex};
 use c_tokens::{Keyword, Punctuator, TokenClass};
+use rvt_num::{Kind, Num};
 use std::alloc::Global;
 use std::test::Fail;
 
@@ -10,6 +11,10 @@ fn token(class: TokenClass, start: usize, end: usize, line: usize, column: usize
         end,
         place: Place { line, column },
     }
+}
+
+fn constant(value: i128) -> TokenClass {
+    TokenClass::Constant(Num::wrapped(Kind::I32, value))
 }
 
 // Counted by hand.
@@ -27,7 +32,7 @@ fn tokens_of_a_short_file(rt: HostRuntime) -> Result<(), Fail> {
         token(TokenClass::Keyword(Keyword::Return), 17, 23, 2, 3),
         token(TokenClass::Word, 24, 25, 2, 10),
         token(TokenClass::Punct(Punctuator::LessEqual), 26, 28, 2, 12),
-        token(TokenClass::Constant(10), 29, 31, 2, 15),
+        token(constant(10), 29, 31, 2, 15),
         token(TokenClass::Punct(Punctuator::Semicolon), 31, 32, 2, 17),
         token(TokenClass::Punct(Punctuator::RightBrace), 33, 34, 3, 1),
     ];
@@ -54,7 +59,7 @@ fn bad_numbers(rt: HostRuntime) -> Result<(), Fail> {
     assert!(rt; is_refused(alloc, b"x = 08;", 1, 5, Cause::BadNumber));
     assert!(rt; is_refused(alloc, b"\n 1.5", 2, 2, Cause::BadNumber));
     assert!(rt; is_refused(alloc, b"f(12ab)", 1, 3, Cause::BadNumber));
-    assert!(rt; is_refused(alloc, b"2147483648", 1, 1, Cause::BadNumber));
+    assert!(rt; is_refused(alloc, b"int f(int a) { return 08; }", 1, 23, Cause::BadNumber));
     assert!(rt; is_refused(alloc, b"99999999999999999999999", 1, 1, Cause::BadNumber));
     assert!(rt; is_refused(alloc, b"1...", 1, 1, Cause::BadNumber));
     Ok(())
@@ -83,9 +88,9 @@ fn the_longest_token_counts(rt: HostRuntime) -> Result<(), Fail> {
         token(TokenClass::Punct(Punctuator::ShiftLeftEqual), 8, 11, 1, 9),
         token(TokenClass::Punct(Punctuator::Equal), 11, 12, 1, 12),
         token(TokenClass::Punct(Punctuator::Dot), 13, 14, 1, 14),
-        token(TokenClass::Constant(5), 14, 15, 1, 15),
+        token(constant(5), 14, 15, 1, 15),
         token(TokenClass::Word, 16, 20, 1, 17),
-        token(TokenClass::Constant(2147483647), 21, 31, 1, 22),
+        token(constant(2147483647), 21, 31, 1, 22),
     ];
     let Ok(tokens) = lex(alloc, b"x+++++y <<== .5 int8 2147483647") else {
         return Err(Fail::from("refused"));
@@ -201,13 +206,25 @@ fn defines_that_are_refused(rt: HostRuntime) -> Result<(), Fail> {
     Ok(())
 }
 
+#[test]
+fn quotes(rt: HostRuntime) -> Result<(), Fail> {
+    let alloc = rt.alloc();
+    assert!(rt; reads_as(alloc, b"#define N ('/') /* */\nN", b"('/')"));
+    assert!(rt; is_refused(alloc, b"a\n 'ab'", 2, 2, Cause::BadCharacter));
+    assert!(rt; is_refused(alloc, b"#define N '/*'", 1, 1, Cause::BadDefine));
+    assert!(rt; is_refused(alloc, b"#define N \"/*\"", 1, 1, Cause::BadDefine));
+    assert!(rt; is_refused(alloc, b"\n \"ab\x01\"", 2, 5, Cause::BadByte));
+    assert!(rt; is_refused(alloc, b"\"ab\n\"", 1, 1, Cause::BadByte));
+    Ok(())
+}
+
 // Each token of a body is met at the place of the name.
 #[test]
 fn places_of_a_body(rt: HostRuntime) -> Result<(), Fail> {
     let alloc = rt.alloc();
     let wanted = [
         token(TokenClass::Punct(Punctuator::Minus), 10, 11, 2, 3),
-        token(TokenClass::Constant(7), 12, 13, 2, 3),
+        token(constant(7), 12, 13, 2, 3),
         token(TokenClass::Punct(Punctuator::Semicolon), 17, 18, 2, 4),
     ];
     let Ok(tokens) = lex(alloc, b"#define N - 7\n  N;") else {
