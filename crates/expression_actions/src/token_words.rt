@@ -1,5 +1,5 @@
-//! What a token says as an operator or as a word of a type. The grammar asks it of such tokens alone: where the last
-//! one of a list isn't excluded, no other token comes.
+//! What a token says as an operator or as a word of a type. The grammar asks it of such tokens alone, so the last arm of
+//! each match speaks of one token.
 
 ghost use Rattle.std.specs.Prelude.{◌≡◌};
 ghost use Rattle.expression_actions.specs.Operators as spec;
