@@ -5,3 +5,4 @@ pub mod Assumed
 pub mod Bounded
 pub mod BudgetLogs
 pub mod RunSteps
+pub mod GoingOn

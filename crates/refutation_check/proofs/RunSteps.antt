@@ -26,8 +26,8 @@ use Rattle.unit_propagation.specs.declared.watches.Watches.{Watches}
 use Rattle.unit_propagation.proofs.Reasons.{reasons_more_clauses}
 use Rattle.unit_propagation.proofs.Watchings.{watched_add, watched_more}
 use Rattle.refutation_check.proofs.Bounded.{AreBelow}
-use Rattle.refutation_check.specs.Budget.{opposites_but, IsNewAt}
-use Rattle.refutation_check.specs.Runs.{IsRootRun, AreDecidedFrom, IsAssumedFalse, StaysDecided, RefutesWith, AreOthersFalse}
+use Rattle.refutation_check.specs.Budget.{opposites_but, opposites_outside, IsNewAt}
+use Rattle.refutation_check.specs.Runs.{IsRootRun, AreDecidedFrom, IsAssumedFalse, StaysDecided, RefutesWith, IsOutside, AreFalseWithin, AreFalseOutside}
 use Rattle.refutation_check.proofs.Assumed.{contains_map, map_contains, other_place, at_other_place, trail_propagates, false_clause_refutes}
 
 pub extended_contains : (old new : List ℤ) (l : ℤ) → Extends old new → Contains old l → Contains new l
@@ -100,38 +100,37 @@ true_refutes clauses trail l has w assumed is decided =
       )
     ]
 
-module _ (clause : List ℤ) (ordered : IsOrdered clause) (positive : (l : ℤ) → Contains clause l → 0 < variable_of l) (left_out : ℕ) (within : left_out < length clause) where
-  -- a literal at another place is assumed to be false
-  pub other_assumed : (place : ℕ) → place < length clause → place ≢ left_out → IsAssumedFalse (opposites_but clause left_out) (literal_at clause place)
-  other_assumed place low ne = (
-    map_contains opposite (take left_out clause ++ drop (left_out + 1) clause) (literal_at clause place) (at_other_place clause left_out place low ne),
-    λ w.
-        let m = contains_map opposite (take left_out clause ++ drop (left_out + 1) clause) (literal_at clause place) w in
-        let j = other_place clause left_out m.0 within m.1 in
-        let is : literal_at clause place ≡ opposite (literal_at clause j.0) = m.2 ∙ ap opposite (sym j.3) in
-        let same : place ≡ j.0 = same_place clause place j.0 ordered low j.1 (ap variable_of is ∙ variable_of-opposite (literal_at clause j.0)) in
-        not_opposite_self (literal_at clause place) (positive (literal_at clause place) (contains_at clause place low)) (is ∙ ap (λ k. opposite (literal_at clause k)) (sym same)),
-  )
+-- a literal at a place that is not left out is assumed to be false
+pub other_assumed : (clause : List ℤ) → IsOrdered clause → ((l : ℤ) → Contains clause l → 0 < variable_of l) → (from to place : ℕ) → place < length clause → IsOutside from to place → IsAssumedFalse (opposites_outside clause from to) (literal_at clause place)
+other_assumed clause ordered positive from to place low outside = (
+  map_contains opposite (take from clause ++ drop to clause) (literal_at clause place) (at_other_place clause from to place low outside),
+  λ w.
+      let m = contains_map opposite (take from clause ++ drop to clause) (literal_at clause place) w in
+      let j = other_place clause from to m.0 m.1 in
+      let is : literal_at clause place ≡ opposite (literal_at clause j.0) = m.2 ∙ ap opposite (sym j.3) in
+      let same : place ≡ j.0 = same_place clause place j.0 ordered low j.1 (ap variable_of is ∙ variable_of-opposite (literal_at clause j.0)) in
+      not_opposite_self (literal_at clause place) (positive (literal_at clause place) (contains_at clause place low)) (is ∙ ap (λ k. opposite (literal_at clause k)) (sym same)),
+)
 
 -- one place more is passed
-pub others_more : (clause : List ℤ) (left_out place : ℕ) (old new : List ℤ) → Extends old new → (place ≢ left_out → Contains new (opposite (literal_at clause place))) → AreOthersFalse clause left_out place old → AreOthersFalse clause left_out (place + 1) new
-others_more clause left_out place old new extends here others k h ne = elim (cases_lt k place) [
-  | inl low ↦ extended_contains old new (opposite (literal_at clause k)) extends (others k low ne)
+pub within_more : (clause : List ℤ) (from place : ℕ) (old new : List ℤ) → Extends old new → Contains new (opposite (literal_at clause place)) → AreFalseWithin clause from place old → AreFalseWithin clause from (place + 1) new
+within_more clause from place old new extends here within k above h = elim (cases_lt k place) [
+  | inl low ↦ extended_contains old new (opposite (literal_at clause k)) extends (within k above low)
   | inr high ↦
       let e : place ≡ k = omega (arith, h, high) in
-      subst (λ n. Contains new (opposite (literal_at clause n))) e (here (λ f. ne (sym e ∙ f)))
+      subst (λ n. Contains new (opposite (literal_at clause n))) e here
 ]
 
 -- where the run is quiet, the place is new
-pub new_in_quiet : (clauses : List (List ℤ)) (clause : List ℤ) (place : ℕ) (trail : List ℤ) → place < length clause → AreOthersFalse clause place (length clause) trail → IsConsistent trail → IsQuiet trail clauses → (Contains trail (literal_at clause place) → ⊥) → IsNewAt clauses clause place
-new_in_quiet clauses clause place trail within others consistent quiet not_true = (
+pub new_in_quiet : (clauses : List (List ℤ)) (clause : List ℤ) (place : ℕ) (trail : List ℤ) → AreFalseOutside clause place (place + 1) trail → IsConsistent trail → IsQuiet trail clauses → (Contains trail (literal_at clause place) → ⊥) → IsNewAt clauses clause place
+new_in_quiet clauses clause place trail others consistent quiet not_true = (
   refutes_nothing clauses trail (opposites_but clause place) consistent quiet on_trail,
   λ reached. not_true (propagation_stays clauses trail (opposites_but clause place) consistent quiet on_trail reached),
 ) where
   on_trail : (l : ℤ) → Contains (opposites_but clause place) l → Contains trail l
   on_trail l w =
       let m = contains_map opposite (take place clause ++ drop (place + 1) clause) l w in
-      let j = other_place clause place m.0 within m.1 in
+      let j = other_place clause place (place + 1) m.0 m.1 in
       subst (Contains trail) (ap opposite j.3 ∙ sym m.2) (others j.0 j.1 j.2)
 
 -- where the literal at the place is true, it is not new
@@ -159,9 +158,9 @@ pub map_false : {P Q : Type 0} (b : Bool) → (P → Q) → OnFalse b P → OnFa
 map_false true f p = tt
 map_false false f p = f p
 
-pub other_assumed_of : (clause : Clause) (left_out place : ℕ) → left_out < length clause.literals.items → place < length clause.literals.items → place ≢ left_out → IsAssumedFalse (opposites_but clause.literals.items left_out) (literal_at clause.literals.items place)
-other_assumed_of clause left_out place within low ne =
-    other_assumed clause.literals.items clause.ordered (λ l w. (at_member (λ m. (0 < variable_of m) × (variable_of m < 2 ^ 63)) clause.literals.items l clause.in_range w).0) left_out within place low ne
+pub other_assumed_of : (clause : Clause) (from to place : ℕ) → place < length clause.literals.items → IsOutside from to place → IsAssumedFalse (opposites_outside clause.literals.items from to) (literal_at clause.literals.items place)
+other_assumed_of clause from to place low outside =
+    other_assumed clause.literals.items clause.ordered (λ l w. (at_member (λ m. (0 < variable_of m) × (variable_of m < 2 ^ 63)) clause.literals.items l clause.in_range w).0) from to place low outside
 
 pub from_true : {P : Type 0} (b : Bool) → OnTrue b P → b ≡ true → P
 from_true true p e = p

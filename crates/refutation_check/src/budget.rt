@@ -7,8 +7,10 @@ ghost use Rattle.refutation_check.specs.Budget.{IsBudgetVerdict, IsFirstBudgetFa
 ghost use Rattle.refutation_check.specs.Runs.{IsRootRun};
 
 use crate::fault::{LogFault, NOTHING_NEW, OTHER_LENGTH, PROPAGATION_REFUTES};
+use crate::halves::is_new_among;
 use crate::lines::fault_of_line;
-use crate::tries::{is_new_at, take_back};
+use crate::places::Places;
+use crate::tries::take_back;
 use clause_db::{Clause, Clauses, Log, LogLine, Memory, Replay, largest_variable};
 use std::alloc::Global;
 use unit_propagation::{Trail, Watches};
@@ -27,14 +29,20 @@ fn strengthens(
     ensures answer { IfOk result (λ new. IsTrue new ↔ StrengthensPropagation (literal_lists clauses.now.list.items ++ results before.now) learnt.now.literals.items) }
     ensures variables { length trail.new.places.items ≡ length trail.old.places.items }
 {
-    for place in 0..learnt.literals.len() {
-        let new = is_new_at(clauses, before, trail, watches, learnt, place)?;
-        take_back(trail, watches);
-        if new {
-            return Ok(true);
-        }
+    if learnt.literals.is_empty() {
+        return Ok(false);
     }
-    Ok(false)
+    match watches.propagate(clauses, before, trail)? {
+        Some(_) => return Ok(false),
+        None => {}
+    }
+    let all = Places {
+        from: 0,
+        to: learnt.literals.len(),
+    };
+    let new = is_new_among(clauses, before, trail, watches, learnt, all)?;
+    take_back(trail, watches, 0);
+    Ok(new)
 }
 
 /// Does propagation alone refute the clauses?
