@@ -6,3 +6,4 @@ pub mod Bounded
 pub mod BudgetLogs
 pub mod RunSteps
 pub mod GoingOn
+pub mod Middles

@@ -27,7 +27,7 @@ use Rattle.unit_propagation.proofs.Reasons.{reasons_more_clauses}
 use Rattle.unit_propagation.proofs.Watchings.{watched_add, watched_more}
 use Rattle.refutation_check.proofs.Bounded.{AreBelow}
 use Rattle.refutation_check.specs.Budget.{opposites_but, opposites_outside, IsNewAt}
-use Rattle.refutation_check.specs.Runs.{IsRootRun, AreDecidedFrom, IsAssumedFalse, StaysDecided, RefutesWith, IsOutside, AreFalseWithin, AreFalseOutside}
+use Rattle.refutation_check.specs.Runs.{IsRootRun, AreDecidedFrom, IsAssumedFalse, StaysDecided, RefutesWith, IsOutside, AreFalseWithin, AreFalseOutside, AreFalseOutsideBoth}
 use Rattle.refutation_check.proofs.Assumed.{contains_map, map_contains, other_place, at_other_place, trail_propagates, false_clause_refutes}
 
 pub extended_contains : (old new : List ℤ) (l : ℤ) → Extends old new → Contains old l → Contains new l
@@ -120,6 +120,23 @@ within_more clause from place old new extends here within k above h = elim (case
       let e : place ≡ k = omega (arith, h, high) in
       subst (λ n. Contains new (opposite (literal_at clause n))) e here
 ]
+
+-- all literals are false but those left out, once those of the other part are
+pub others_of_both : (clause : List ℤ) (from to a b : ℕ) (old new : List ℤ) → Extends old new → AreFalseWithin clause from to new → AreFalseOutsideBoth clause from to a b old → AreFalseOutside clause a b new
+others_of_both clause from to a b old new extends within both k h outside = elim (cases_lt k from) [
+  | inl low ↦ extended_contains old new (opposite (literal_at clause k)) extends (both k h (λ above below. omega (arith, low, above)) outside)
+  | inr high ↦ elim (cases_lt k to) [
+    | inl low ↦ within k (omega (arith, high)) low
+    | inr over ↦ extended_contains old new (opposite (literal_at clause k)) extends (both k h (λ above below. omega (arith, over, below)) outside)
+  ]
+]
+
+-- what is outside two halves is outside the whole
+pub outside_both : (clause : List ℤ) (from middle to : ℕ) (trail : List ℤ) → AreFalseOutside clause from to trail → AreFalseOutsideBoth clause from middle middle to trail
+outside_both clause from middle to trail others k h first second = others k h (λ above below. elim (cases_lt k middle) [
+  | inl low ↦ first above low
+  | inr high ↦ second (omega (arith, high)) below
+])
 
 -- where the run is quiet, the place is new
 pub new_in_quiet : (clauses : List (List ℤ)) (clause : List ℤ) (place : ℕ) (trail : List ℤ) → AreFalseOutside clause place (place + 1) trail → IsConsistent trail → IsQuiet trail clauses → (Contains trail (literal_at clause place) → ⊥) → IsNewAt clauses clause place
