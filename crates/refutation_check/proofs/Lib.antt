@@ -7,3 +7,4 @@ pub mod BudgetLogs
 pub mod RunSteps
 pub mod GoingOn
 pub mod Middles
+pub mod Permuted

@@ -7,7 +7,7 @@ use Rattle.std.proofs.lemmas.Bool.{cases_lt}
 use Rattle.std.proofs.Math.Seq.{get_or-append_seam}
 use Rattle.std.proofs.lemmas.List.{get_or_append_left, get_or_default, map-append}
 use Rattle.std.proofs.lemmas.List.Elements.{Contains-append_cases, Contains-append_left, Contains-append_right}
-use Rattle.clause_db.specs.Literal.{variable_of, opposite, IsOrdered}
+use Rattle.clause_db.specs.Literal.{variable_of, opposite, IsOrdered, AreInRange}
 use Rattle.clause_db.specs.Propagation.{Propagates, PropagationRefutes, assumption}
 use Rattle.clause_db.proofs.Ordered.{variable_of-opposite, not_opposite_self, contains_at, read_at_place, same_place, at_member}
 use Rattle.clause_db.proofs.Places.{contains_numbered}
@@ -27,6 +27,7 @@ use Rattle.unit_propagation.proofs.Reasons.{reasons_more_clauses}
 use Rattle.unit_propagation.proofs.Watchings.{watched_add, watched_more}
 use Rattle.refutation_check.proofs.Bounded.{AreBelow}
 use Rattle.refutation_check.specs.Budget.{opposites_but, opposites_outside, IsNewAt}
+use Rattle.refutation_check.specs.Distinct.{AreDistinct}
 use Rattle.refutation_check.specs.Runs.{IsRootRun, AreDecidedFrom, IsAssumedFalse, StaysDecided, RefutesWith, IsOutside, AreFalseWithin, AreFalseOutside, AreFalseOutsideBoth}
 use Rattle.refutation_check.proofs.Assumed.{contains_map, map_contains, other_place, at_other_place, trail_propagates, false_clause_refutes}
 
@@ -101,15 +102,15 @@ true_refutes clauses trail l has w assumed is decided =
     ]
 
 -- a literal at a place that is not left out is assumed to be false
-pub other_assumed : (clause : List ℤ) → IsOrdered clause → ((l : ℤ) → Contains clause l → 0 < variable_of l) → (from to place : ℕ) → place < length clause → IsOutside from to place → IsAssumedFalse (opposites_outside clause from to) (literal_at clause place)
-other_assumed clause ordered positive from to place low outside = (
-  map_contains opposite (take from clause ++ drop to clause) (literal_at clause place) (at_other_place clause from to place low outside),
+pub other_assumed : (literals : List ℤ) → AreDistinct literals → AreInRange literals → (from to place : ℕ) → place < length literals → IsOutside from to place → IsAssumedFalse (opposites_outside literals from to) (literal_at literals place)
+other_assumed literals distinct in_range from to place low outside = (
+  map_contains opposite (take from literals ++ drop to literals) (literal_at literals place) (at_other_place literals from to place low outside),
   λ w.
-      let m = contains_map opposite (take from clause ++ drop to clause) (literal_at clause place) w in
-      let j = other_place clause from to m.0 m.1 in
-      let is : literal_at clause place ≡ opposite (literal_at clause j.0) = m.2 ∙ ap opposite (sym j.3) in
-      let same : place ≡ j.0 = same_place clause place j.0 ordered low j.1 (ap variable_of is ∙ variable_of-opposite (literal_at clause j.0)) in
-      not_opposite_self (literal_at clause place) (positive (literal_at clause place) (contains_at clause place low)) (is ∙ ap (λ k. opposite (literal_at clause k)) (sym same)),
+      let m = contains_map opposite (take from literals ++ drop to literals) (literal_at literals place) w in
+      let j = other_place literals from to m.0 m.1 in
+      let is : literal_at literals place ≡ opposite (literal_at literals j.0) = m.2 ∙ ap opposite (sym j.3) in
+      let same : place ≡ j.0 = distinct place j.0 low j.1 (ap variable_of is ∙ variable_of-opposite (literal_at literals j.0)) in
+      not_opposite_self (literal_at literals place) (in_range place (pos 0) low).0 (is ∙ ap (λ k. opposite (literal_at literals k)) (sym same)),
 )
 
 -- one place more is passed
@@ -174,10 +175,6 @@ map_true false f p = tt
 pub map_false : {P Q : Type 0} (b : Bool) → (P → Q) → OnFalse b P → OnFalse b Q
 map_false true f p = tt
 map_false false f p = f p
-
-pub other_assumed_of : (clause : Clause) (from to place : ℕ) → place < length clause.literals.items → IsOutside from to place → IsAssumedFalse (opposites_outside clause.literals.items from to) (literal_at clause.literals.items place)
-other_assumed_of clause from to place low outside =
-    other_assumed clause.literals.items clause.ordered (λ l w. (at_member (λ m. (0 < variable_of m) × (variable_of m < 2 ^ 63)) clause.literals.items l clause.in_range w).0) from to place low outside
 
 pub from_true : {P : Type 0} (b : Bool) → OnTrue b P → b ≡ true → P
 from_true true p e = p

@@ -9,8 +9,9 @@ ghost use Rattle.unit_propagation.specs.Truth.{IsFree};
 ghost use Rattle.refutation_check.specs.Budget.{opposites_outside};
 ghost use Rattle.refutation_check.specs.Runs.{IsRun, IsQuietRun, AreDecidedFrom, StaysDecided, RefutesWith, IsOutside, AreFalseWithin, GoesOn, IsBack};
 
+use crate::orders::Order;
 use crate::places::Places;
-use clause_db::{Clause, Clauses, LogLine, Memory};
+use clause_db::{Clauses, LogLine, Memory};
 use unit_propagation::{Trail, Value, Watches};
 
 /// Decides that a free literal is false, propagates, and answers whether no clause came to be false.
@@ -74,60 +75,60 @@ fn assume_false(
     }
 }
 
-/// Assumes that the literal at a place of a clause is false, and answers whether that led to no contradiction.
+/// Assumes that the literal at a place is false, and answers whether that led to no contradiction.
 /// The places that are left out are others.
 fn assume_at(
     clauses: &Clauses,
     before: &[LogLine],
     trail: &mut Trail,
     watches: &mut Watches,
-    learnt: &Clause,
+    order: &Order,
     place: usize,
     left_out: Places,
 ) -> Result<bool, Memory>
-    requires fits { All (λ l. variable_of l < length trail.old.places.items) learnt.now.literals.items }
-    requires within { place < length learnt.now.literals.items }
+    requires fits { All (λ l. variable_of l < length trail.old.places.items) order.now.literals.items }
+    requires within { place < length order.now.literals.items }
     requires outside { IsOutside left_out.from left_out.to place }
     requires run { IsQuietRun (literal_lists clauses.now.list.items ++ results before.now) trail.old watches.old }
-    requires decided { AreDecidedFrom (opposites_outside learnt.now.literals.items left_out.from left_out.to) trail.old }
+    requires decided { AreDecidedFrom (opposites_outside order.now.literals.items left_out.from left_out.to) trail.old }
     ensures run { IfOk result (λ _. IsRun (literal_lists clauses.now.list.items ++ results before.now) trail.new watches.new) }
     ensures quiet { IfOk result (λ fine. OnTrue fine (IsQuietRun (literal_lists clauses.now.list.items ++ results before.now) trail.new watches.new)) }
-    ensures decided { IfOk result (λ fine. OnTrue fine (AreDecidedFrom (opposites_outside learnt.now.literals.items left_out.from left_out.to) trail.new)) }
-    ensures false_there { IfOk result (λ fine. OnTrue fine (Contains trail.new.literals.items (opposite (literal_at learnt.now.literals.items place)))) }
-    ensures refuted { IfOk result (λ fine. OnFalse fine (PropagationRefutes (literal_lists clauses.now.list.items ++ results before.now) (opposites_outside learnt.now.literals.items left_out.from left_out.to))) }
+    ensures decided { IfOk result (λ fine. OnTrue fine (AreDecidedFrom (opposites_outside order.now.literals.items left_out.from left_out.to) trail.new)) }
+    ensures false_there { IfOk result (λ fine. OnTrue fine (Contains trail.new.literals.items (opposite (literal_at order.now.literals.items place)))) }
+    ensures refuted { IfOk result (λ fine. OnFalse fine (PropagationRefutes (literal_lists clauses.now.list.items ++ results before.now) (opposites_outside order.now.literals.items left_out.from left_out.to))) }
     ensures goes_on { IfOk result (λ _. GoesOn trail.old trail.new watches.new.head) }
     ensures variables { length trail.new.places.items ≡ length trail.old.places.items }
 {
-    let fine = assume_false(clauses, before, trail, watches, learnt.literals[place])?;
+    let fine = assume_false(clauses, before, trail, watches, order.literals[place])?;
     Ok(fine)
 }
 
-/// Assumes that the literals of one part of a clause are false, and answers whether that led to no
+/// Assumes that the literals of one part are false, and answers whether that led to no
 /// contradiction. The part that is left out is another.
 pub fn assume_part(
     clauses: &Clauses,
     before: &[LogLine],
     trail: &mut Trail,
     watches: &mut Watches,
-    learnt: &Clause,
+    order: &Order,
     part: Places,
     left_out: Places,
 ) -> Result<bool, Memory>
-    requires fits { All (λ l. variable_of l < length trail.old.places.items) learnt.now.literals.items }
-    requires within { part.to ≤ length learnt.now.literals.items }
+    requires fits { All (λ l. variable_of l < length trail.old.places.items) order.now.literals.items }
+    requires within { part.to ≤ length order.now.literals.items }
     requires apart { (k : ℕ) → part.from ≤ k → k < part.to → IsOutside left_out.from left_out.to k }
     requires run { IsQuietRun (literal_lists clauses.now.list.items ++ results before.now) trail.old watches.old }
-    requires decided { AreDecidedFrom (opposites_outside learnt.now.literals.items left_out.from left_out.to) trail.old }
+    requires decided { AreDecidedFrom (opposites_outside order.now.literals.items left_out.from left_out.to) trail.old }
     ensures run { IfOk result (λ _. IsRun (literal_lists clauses.now.list.items ++ results before.now) trail.new watches.new) }
     ensures quiet { IfOk result (λ fine. OnTrue fine (IsQuietRun (literal_lists clauses.now.list.items ++ results before.now) trail.new watches.new)) }
-    ensures decided { IfOk result (λ fine. OnTrue fine (AreDecidedFrom (opposites_outside learnt.now.literals.items left_out.from left_out.to) trail.new)) }
-    ensures false_there { IfOk result (λ fine. OnTrue fine (AreFalseWithin learnt.now.literals.items part.from part.to trail.new.literals.items)) }
-    ensures refuted { IfOk result (λ fine. OnFalse fine (PropagationRefutes (literal_lists clauses.now.list.items ++ results before.now) (opposites_outside learnt.now.literals.items left_out.from left_out.to))) }
+    ensures decided { IfOk result (λ fine. OnTrue fine (AreDecidedFrom (opposites_outside order.now.literals.items left_out.from left_out.to) trail.new)) }
+    ensures false_there { IfOk result (λ fine. OnTrue fine (AreFalseWithin order.now.literals.items part.from part.to trail.new.literals.items)) }
+    ensures refuted { IfOk result (λ fine. OnFalse fine (PropagationRefutes (literal_lists clauses.now.list.items ++ results before.now) (opposites_outside order.now.literals.items left_out.from left_out.to))) }
     ensures goes_on { IfOk result (λ _. GoesOn trail.old trail.new watches.new.head) }
     ensures variables { length trail.new.places.items ≡ length trail.old.places.items }
 {
     for place in part.from..part.to {
-        if !assume_at(clauses, before, trail, watches, learnt, place, left_out)? {
+        if !assume_at(clauses, before, trail, watches, order, place, left_out)? {
             return Ok(false);
         }
     }

@@ -15,7 +15,7 @@ use Rattle.refutation_check.proofs.halves.+halves.Goals as goal
 pub is_new_among-returns-then-places-eq1-clause-answer : goal.is_new_among-returns-then-places-eq1-clause-answer
 is_new_among-returns-then-places-eq1-clause-answer n c =
     let clauses : List (List ℤ) = literal_lists c.args.clauses.now.list.items ++ results c.args.before.now in
-    let clause : List ℤ = c.args.learnt.now.literals.items in
+    let clause : List ℤ = c.args.order.now.literals.items in
     let trail = c.args.trail.now in
     let from : ℕ = c.args.places.from in
     let to : ℕ = c.args.places.to in
@@ -27,7 +27,7 @@ is_new_among-returns-then-places-eq1-clause-answer n c =
 
 pub is_new_among-is_new_without-requires : goal.is_new_among-is_new_without-requires
 is_new_among-is_new_without-requires n c =
-    let clause : List ℤ = c.args.learnt.now.literals.items in
+    let clause : List ℤ = c.args.order.now.literals.items in
     let trail = c.args.trail.now in
     let from : ℕ = c.args.places.from in
     let to : ℕ = c.args.places.to in
@@ -63,7 +63,7 @@ is_new_among-is_new_without-requires n c =
 pub is_new_among-is_new_without-requires-2 : goal.is_new_among-is_new_without-requires-2
 is_new_among-is_new_without-requires-2 n c =
     let clauses : List (List ℤ) = literal_lists c.args.clauses.now.list.items ++ results c.args.before.now in
-    let clause : List ℤ = c.args.learnt.now.literals.items in
+    let clause : List ℤ = c.args.order.now.literals.items in
     let trail = c.args.trail.now in
     let new = c.take_back.new.trail in
     let watches = c.take_back.new.watches in
@@ -104,7 +104,7 @@ is_new_among-is_new_without-requires-2 n c =
 pub is_new_among-returns-clause-answer : goal.is_new_among-returns-clause-answer
 is_new_among-returns-clause-answer n c =
     let clauses : List (List ℤ) = literal_lists c.args.clauses.now.list.items ++ results c.args.before.now in
-    let clause : List ℤ = c.args.learnt.now.literals.items in
+    let clause : List ℤ = c.args.order.now.literals.items in
     let from : ℕ = c.args.places.from in
     let to : ℕ = c.args.places.to in
     let high : from + (to - from) / 2 < to = below from to c.requires.some c.if-places-eq1.false in
@@ -122,11 +122,11 @@ pub is_new_without-returns-then-not-branch-clause-answer : goal.is_new_without-r
 is_new_without-returns-then-not-branch-clause-answer n c =
     let clauses : List (List ℤ) = literal_lists c.args.clauses.now.list.items ++ results c.args.before.now in
     let refuted = from_false _ c.in_ok-assume_part.ensures.refuted c.if-not-branch.true in
-    ((λ never. cc), λ some. absurd (none_new clauses c.args.learnt.now.literals.items c.args.left_out.from c.args.left_out.to refuted some))
+    ((λ never. cc), λ some. absurd (none_new clauses c.args.order.now.literals.items c.args.left_out.from c.args.left_out.to refuted some))
 
 pub is_new_without-is_new_among-requires : goal.is_new_without-is_new_among-requires
 is_new_without-is_new_among-requires n c =
-    let clause : List ℤ = c.args.learnt.now.literals.items in
+    let clause : List ℤ = c.args.order.now.literals.items in
     let e = c.in_ok-assume_part.ensures in
     let old = c.args.trail.now in
     let new = c.assume_part.new.trail in

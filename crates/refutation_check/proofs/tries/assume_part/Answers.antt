@@ -8,7 +8,7 @@ use Rattle.refutation_check.proofs.GoingOn.{goes_on_same, goes_on_more, goes_on_
 use Rattle.refutation_check.proofs.tries.assume_part.Goals as goal
 
 pub assume_at-requires-clause-fits : goal.assume_at-requires-clause-fits
-assume_at-requires-clause-fits c = subst (λ n. All (λ l. variable_of l < n) c.args.learnt.now.literals.items) (sym c.loop-place.invariant.variables) c.requires.fits
+assume_at-requires-clause-fits c = subst (λ n. All (λ l. variable_of l < n) c.args.order.now.literals.items) (sym c.loop-place.invariant.variables) c.requires.fits
 
 pub loop-place-init : goal.loop-place-init
 loop-place-init c = record {
@@ -21,7 +21,7 @@ loop-place-init c = record {
 
 pub loop-place-preserved : goal.loop-place-preserved
 loop-place-preserved c =
-    let clause = c.args.learnt.now.literals.items in
+    let clause = c.args.order.now.literals.items in
     let i = c.loop-place.invariant in
     let e = c.in_ok-assume_at.ensures in
     let old = c.loop-place.trail in
