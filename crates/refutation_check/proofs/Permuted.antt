@@ -26,17 +26,16 @@ module _ (clauses : List (List ℤ)) (xs ys : List ℤ) (distinct : AreDistinct 
       let v = back m.0 (subst (Contains ys) i.3 (contains_at ys i.0 i.1)) in
       let at : literal_at xs v.0 ≡ m.0 = read_at_place xs m.0 v in
       let outside : IsOutside k (k + 1) v.0 = λ above below.
-          let e : v.0 ≡ k = omega (arith, above, below) in
-          let here : i.0 ≡ j = distinct i.0 j i.1 hj (ap variable_of (i.3 ∙ sym at ∙ ap (literal_at xs) e ∙ sym same)) in
-          i.2 (omega (arith, here)) (omega (arith, here)) in
+      let e : v.0 ≡ k = omega (arith, above, below) in
+      let here : i.0 ≡ j = distinct i.0 j i.1 hj (ap variable_of (i.3 ∙ sym at ∙ ap (literal_at xs) e ∙ sym same)) in
+      i.2 (omega (arith, here)) (omega (arith, here)) in
       subst (Contains (opposites_but xs k)) (ap opposite at ∙ sym m.2) (map_contains opposite (take k xs ++ drop (k + 1) xs) (literal_at xs v.0) (at_other_place xs k (k + 1) v.0 v.1 outside))
 
   pub new_there : (k : ℕ) → k < length xs → IsNewAt clauses xs k → (j : ℕ) × (j < length ys) × IsNewAt clauses ys j
   new_there k hk new =
       let w = there (literal_at xs k) (contains_at xs k hk) in
       let same : literal_at ys w.0 ≡ literal_at xs k = read_at_place ys (literal_at xs k) w in
-      let more = opposites_there k w.0 hk w.1 same in
-      (
+      let more = opposites_there k w.0 hk w.1 same in (
         w.0,
         w.1,
         ((λ r. new.0 (refutes_more clauses (opposites_but ys w.0) (opposites_but xs k) more r)), λ r. new.1 (propagates_more clauses (opposites_but ys w.0) (opposites_but xs k) more (subst (λ l. Propagates clauses (opposites_but ys w.0) l) same r))),

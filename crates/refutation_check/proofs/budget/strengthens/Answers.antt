@@ -27,7 +27,7 @@ returns-in-Some-clause-run c =
       watched = f.watched;
       known = c.propagate.ensures.known ∙ c.requires.run.run.known;
     } in
-    record { run = is_run; no_decision = none; }
+    record { run = is_run; no_decision = none }
 
 pub returns-in-Some-clause-answer : goal.returns-in-Some-clause-answer
 returns-in-Some-clause-answer c =
@@ -66,7 +66,6 @@ is_new_among-requires-clause-run c =
       started = λ k h. absurd (let e = ap length none in omega (arith, e, h));
     }
 
-
 pub is_new_among-requires-clause-fits : goal.is_new_among-requires-clause-fits
 is_new_among-requires-clause-fits c =
     let clause : List ℤ = c.args.line.now.result.literals.items in
@@ -90,8 +89,7 @@ returns-clause-answer c =
     let order = c.in_ok-order.order in
     let same = c.in_ok-order.ensures in
     let long : c.len.result ≡ length order.literals.items = omega (arith, c.len.ensures, order.literals.ok.0) in
-    let answer = c.in_ok-new.ensures.answer in
-    (
+    let answer = c.in_ok-new.ensures.answer in (
       (λ is_new.
           let w = answer.0 is_new in
           let v = new_there clauses order.literals.items clause (distinct_ordered clause c.args.line.now.result.ordered) same.1 same.0 w.0 (let h = w.2 in omega (arith, h, long)) w.3 in

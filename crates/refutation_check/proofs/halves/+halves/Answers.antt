@@ -33,8 +33,7 @@ is_new_among-is_new_without-requires n c =
     let to : ℕ = c.args.places.to in
     let middle : ℕ = from + (to - from) / 2 in
     let low : from < from + (to - from) / 2 = above from to c.requires.some c.if-places-eq1.false in
-    let high : from + (to - from) / 2 < to = below from to c.requires.some c.if-places-eq1.false in
-    (
+    let high : from + (to - from) / 2 < to = below from to c.requires.some c.if-places-eq1.false in (
       (let d : 2 * (to - from) ≡ n = c.decreases in omega (arith, d, low)),
       (
         c.requires.fits,
@@ -74,8 +73,7 @@ is_new_among-is_new_without-requires-2 n c =
     let e = c.in_ok-is_new_without.ensures in
     let back : IsBack trail new watches.head = c.take_back.ensures.back trail (omega (arith, c.len-level.ensures, trail.starts.ok.0)) e.goes_on in
     let decided = decided_back trail new watches back (opposites_outside clause from to) c.requires.decided in
-    let others = false_back trail new watches back clause from to c.requires.others in
-    (
+    let others = false_back trail new watches back clause from to c.requires.others in (
       (let d : 2 * (to - from) ≡ n = c.decreases in omega (arith, d, high)),
       (
         subst (λ m. All (λ l. variable_of l < m) clause) (sym (c.take_back.ensures.variables ∙ e.variables)) c.requires.fits,
@@ -129,8 +127,7 @@ is_new_without-is_new_among-requires n c =
     let clause : List ℤ = c.args.order.now.literals.items in
     let e = c.in_ok-assume_part.ensures in
     let old = c.args.trail.now in
-    let new = c.assume_part.new.trail in
-    (
+    let new = c.assume_part.new.trail in (
       (let d : 2 * (c.args.left_out.to - c.args.left_out.from) + 1 ≡ n = c.decreases in omega (arith, d)),
       (
         subst (λ m. All (λ l. variable_of l < m) clause) (sym c.assume_part.ensures.variables) c.requires.fits,
