@@ -1,5 +1,5 @@
 -- Places are tried by halves.
-use Rattle.std.proofs.Common.{Bool, true, false, not, ◌≡◌, inl, inr, ℕ, ℤ, ◌<◌, ◌≤◌, ◌+◌, ◌-◌, ◌*◌, ◌/◌, ◌%◌, ◌↔◌, List, length, sym, arith, subst, refl}
+use Rattle.std.proofs.Common.{Bool, true, false, not, ◌≡◌, inl, inr, ℕ, ℤ, ◌<◌, ◌≤◌, ◌+◌, ◌-◌, ◌/◌, ◌%◌, ◌↔◌, List, arith, subst, refl}
 use Rattle.std.specs.Prelude.{Contains, IsTrue}
 use Rattle.std.proofs.lemmas.Bool.{cases_lt}
 use Rattle.std.proofs.lemmas.Nat.{div-add-mod', mod_below}

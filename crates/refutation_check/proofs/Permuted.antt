@@ -1,10 +1,10 @@
 -- A clause is new at a literal in whatever order its literals are taken.
-use Rattle.std.proofs.Common.{◌≡◌, ◌≢◌, ◌⊎◌, inl, inr, ℕ, ℤ, pos, ◌<◌, ◌≤◌, ◌+◌, List, ◌++◌, length, take, drop, slice_index_or, refl, sym, ap, ◌∙◌, arith, subst}
+use Rattle.std.proofs.Common.{◌≡◌, ◌≢◌, inl, inr, ℕ, ℤ, ◌<◌, ◌+◌, List, ◌++◌, length, take, drop, slice_index_or, sym, ap, ◌∙◌, arith, subst}
 use Rattle.std.specs.Prelude.{Contains}
 use Rattle.std.specs.List.{SwappedAt}
 use Rattle.std.proofs.lemmas.Bool.{cases_eq}
 use Rattle.std.proofs.lemmas.List.{get_or_default}
-use Rattle.clause_db.specs.Literal.{variable_of, opposite, IsOrdered, AreInRange}
+use Rattle.clause_db.specs.Literal.{variable_of, opposite, IsOrdered}
 use Rattle.clause_db.specs.Propagation.{Propagates}
 use Rattle.clause_db.proofs.Ordered.{contains_at, read_at_place, same_place, at_member}
 use Rattle.unit_propagation.specs.Places.{literal_at}

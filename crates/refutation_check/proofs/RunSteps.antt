@@ -1,5 +1,5 @@
 -- Steps of a run: a literal is assumed to be false, decisions are taken back, a clause is added.
-use Rattle.std.proofs.Common.{◌==◌, ◌^◌, Bool, true, false, zero, suc, ◌≡◌, ◌≢◌, inl, inr, ℕ, ℤ, pos, ◌<◌, ◌+◌, List, [], ◌∷◌, ◌++◌, length, take, drop, slice_index, slice_index_or, None, refl, sym, ap, ◌∙◌, arith, subst, length-append, append_assoc}
+use Rattle.std.proofs.Common.{◌==◌, Bool, true, false, zero, suc, ◌≡◌, inl, inr, ℕ, ℤ, pos, ◌<◌, ◌+◌, List, [], ◌∷◌, ◌++◌, length, take, drop, slice_index, slice_index_or, None, refl, sym, ap, ◌∙◌, arith, subst, length-append, append_assoc}
 use Rattle.std.specs.Prelude.{Contains}
 use Rattle.std.specs.Bool.{OnTrue, OnFalse}
 use Rattle.clause_db.specs.declared.clause.Clause.{Clause}
@@ -9,7 +9,7 @@ use Rattle.std.proofs.lemmas.List.{get_or_append_left, get_or_default, map-appen
 use Rattle.std.proofs.lemmas.List.Elements.{Contains-append_cases, Contains-append_left, Contains-append_right}
 use Rattle.clause_db.specs.Literal.{variable_of, opposite, IsOrdered, AreInRange}
 use Rattle.clause_db.specs.Propagation.{Propagates, PropagationRefutes, assumption}
-use Rattle.clause_db.proofs.Ordered.{variable_of-opposite, not_opposite_self, contains_at, read_at_place, same_place, at_member}
+use Rattle.clause_db.proofs.Ordered.{variable_of-opposite, not_opposite_self, contains_at, read_at_place}
 use Rattle.clause_db.proofs.Places.{contains_numbered}
 use Rattle.unit_propagation.specs.Places.{literal_at}
 use Rattle.unit_propagation.specs.Quiet.{IsFalseClause, IsQuiet, HasReasons}

@@ -1,4 +1,4 @@
-use Rattle.std.proofs.Common.{rules, arith, ◌≡◌, ℤ, ◌<◌, inl, inr, List, [], ◌++◌, ◌∙◌, length, sym, subst, ap}
+use Rattle.std.proofs.Common.{arith, ◌≡◌, ℤ, ◌<◌, List, [], ◌++◌, ◌∙◌, length, sym, subst, ap}
 use Rattle.std.specs.Prelude.{All}
 use Rattle.clause_db.specs.Literal.{variable_of}
 use Rattle.clause_db.specs.Log.{literal_lists, results}
@@ -7,8 +7,8 @@ use Rattle.clause_db.proofs.Ordered.{contains_at}
 use Rattle.unit_propagation.specs.Places.{literal_at}
 use Rattle.clause_db.proofs.Places.{contains_numbered}
 use Rattle.unit_propagation.specs.Status.{FitsVariables, IsOutcome}
-use Rattle.refutation_check.specs.Budget.{IsNewAt, opposites_but}
-use Rattle.refutation_check.specs.Runs.{IsRun, IsQuietRun}
+use Rattle.refutation_check.specs.Budget.{opposites_but}
+use Rattle.refutation_check.specs.Runs.{IsRun}
 use Rattle.refutation_check.proofs.Assumed.{strengthens_by_place, place_of_strengthening}
 use Rattle.refutation_check.proofs.Permuted.{new_there, all_there, distinct_ordered}
 use Rattle.refutation_check.proofs.RunSteps.{none_decided, false_refutes, above_zero}

@@ -1,11 +1,11 @@
-use Rattle.std.proofs.Common.{arith, ◌≡◌, ◌<◌, ◌≤◌, ◌+◌, ◌-◌, ◌*◌, ◌/◌, ◌++◌, ◌∙◌, ℕ, ℤ, List, length, sym, subst, ap, refl}
-use Rattle.std.specs.Prelude.{All, Contains}
+use Rattle.std.proofs.Common.{arith, ◌≡◌, ◌<◌, ◌+◌, ◌-◌, ◌*◌, ◌/◌, ◌++◌, ◌∙◌, ℕ, ℤ, List, sym, subst}
+use Rattle.std.specs.Prelude.{All}
 use Rattle.clause_db.specs.Literal.{variable_of}
 use Rattle.clause_db.specs.Log.{literal_lists, results}
 use Rattle.unit_propagation.specs.Places.{literal_at}
 use Rattle.unit_propagation.proofs.Consistent.{consistent_from_places}
 use Rattle.refutation_check.specs.Budget.{opposites_outside}
-use Rattle.refutation_check.specs.Runs.{IsQuietRun, IsBack, AreDecidedFrom, AreFalseOutside}
+use Rattle.refutation_check.specs.Runs.{IsBack, AreDecidedFrom, AreFalseOutside}
 use Rattle.refutation_check.proofs.Assumed.{none_new, opposites_narrow}
 use Rattle.refutation_check.proofs.RunSteps.{from_true, from_false, others_of_both, outside_both, new_in_quiet, true_not_new}
 use Rattle.refutation_check.proofs.GoingOn.{goes_on_more, goes_on_extends, goes_on_back, quiet_back, decided_back, false_back}
@@ -31,7 +31,6 @@ is_new_among-is_new_without-requires n c =
     let trail = c.args.trail.now in
     let from : ℕ = c.args.places.from in
     let to : ℕ = c.args.places.to in
-    let middle : ℕ = from + (to - from) / 2 in
     let low : from < from + (to - from) / 2 = above from to c.requires.some c.if-places-eq1.false in
     let high : from + (to - from) / 2 < to = below from to c.requires.some c.if-places-eq1.false in (
       (let d : 2 * (to - from) ≡ n = c.decreases in omega (arith, d, low)),

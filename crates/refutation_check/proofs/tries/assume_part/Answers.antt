@@ -1,8 +1,6 @@
-use Rattle.std.proofs.Common.{arith, ◌≡◌, ◌<◌, ◌∙◌, length, sym, subst, refl}
+use Rattle.std.proofs.Common.{arith, ◌<◌, ◌∙◌, sym, subst, refl}
 use Rattle.std.specs.Prelude.{All}
 use Rattle.clause_db.specs.Literal.{variable_of}
-use Rattle.refutation_check.specs.Budget.{opposites_outside}
-use Rattle.refutation_check.specs.Runs.{AreFalseWithin}
 use Rattle.refutation_check.proofs.RunSteps.{within_more, from_true, from_false}
 use Rattle.refutation_check.proofs.GoingOn.{goes_on_same, goes_on_more, goes_on_extends}
 use Rattle.refutation_check.proofs.tries.assume_part.Goals as goal

@@ -1,4 +1,4 @@
-use Rattle.std.proofs.Common.{arith, ◌<◌, ◌≤◌, ℕ, length, sym, subst}
+use Rattle.std.proofs.Common.{arith, ◌<◌, ℕ, length, sym, subst}
 use Rattle.unit_propagation.specs.Status.{FitsVariables}
 use Rattle.unit_propagation.specs.Watching.{entries}
 use Rattle.unit_propagation.proofs.Reasons.{reasons_taken_back}
