@@ -1,17 +1,18 @@
 -- Propagation from the opposites of all literals of a clause but one, on a trail of decisions.
-use Rattle.std.proofs.Common.{◌≡◌, ◌≢◌, inl, inr, ℕ, zero, suc, ℤ, pos, ◌<◌, ◌+◌, ◌-◌, List, ◌∷◌, ◌++◌, length, map, take, drop, slice_index_or, get_or, get_or-take, get_or-drop, length-take, length-drop, length-append, sym, ap, ◌∙◌, arith, subst}
+use Rattle.std.proofs.Common.{◌≡◌, inl, inr, ℕ, zero, suc, ℤ, pos, ◌<◌, ◌≤◌, ◌+◌, ◌-◌, List, ◌∷◌, ◌++◌, length, map, take, drop, slice_index_or, get_or, get_or-take, get_or-drop, length-take, length-drop, length-append, sym, ap, ◌∙◌, arith, subst}
 use Rattle.std.specs.Prelude.{Contains}
 use Rattle.std.proofs.lemmas.Bool.{cases_lt}
 use Rattle.std.proofs.Math.Seq.{drop-cons, get_or-append_seam, take-append_seam, drop-append-add}
 use Rattle.std.proofs.lemmas.List.{take-append-drop, get_or_default, get_or-map, length-map}
 use Rattle.std.proofs.lemmas.List.Elements.{Contains-append_cases, Contains-append_left, Contains-append_right}
 use Rattle.clause_db.specs.Literal.{opposite}
-use Rattle.clause_db.specs.Propagation.{StrengthensPropagation, Propagates, PropagationRefutes, unit}
+use Rattle.clause_db.specs.Propagation.{StrengthensPropagation, Propagates, PropagationRefutes, assumption, unit}
 use Rattle.clause_db.proofs.Ordered.{contains_at, read_at_place}
 use Rattle.clause_db.proofs.Places.{contains_numbered}
 use Rattle.unit_propagation.specs.Places.{literal_at}
 use Rattle.unit_propagation.specs.Quiet.{IsFalseClause, HasReasons}
-use Rattle.refutation_check.specs.Budget.{opposites_but, IsNewAt}
+use Rattle.refutation_check.specs.Budget.{opposites_but, opposites_outside, IsNewAt, IsNewAmong}
+use Rattle.refutation_check.specs.Runs.{IsOutside}
 
 -- an element of the opposites is one of an element
 pub contains_map : (f : ℤ → ℤ) (xs : List ℤ) (l : ℤ) → Contains (map f xs) l → (m : ℤ) × Contains xs m × (l ≡ f m)
@@ -22,29 +23,55 @@ contains_map f xs l (k, h, e) =
 pub map_contains : (f : ℤ → ℤ) (xs : List ℤ) (m : ℤ) → Contains xs m → Contains (map f xs) (f m)
 map_contains f xs m (k, h, e) = (k, simp length-map h, get_or-map f xs k m (f m) h ∙ ap f e)
 
--- an element of a list without its k-th stands at another place
-pub other_place : (xs : List ℤ) (k : ℕ) (m : ℤ) → k < length xs → Contains (take k xs ++ drop (k + 1) xs) m → (j : ℕ) × (j < length xs) × (j ≢ k) × (slice_index_or xs j (pos 0) ≡ m)
-other_place xs k m in_xs w =
-    elim (Contains-append_cases (take k xs) (drop (k + 1) xs) m w) [
+-- an element of a list without some of its places stands at another place
+pub other_place : (xs : List ℤ) (from to : ℕ) (m : ℤ) → Contains (take from xs ++ drop to xs) m → (j : ℕ) × (j < length xs) × IsOutside from to j × (slice_index_or xs j (pos 0) ≡ m)
+other_place xs from to m w =
+    elim (Contains-append_cases (take from xs) (drop to xs) m w) [
       | inl v ↦
-          let low : v.0 < k = let h = v.1 in let g = length-take k xs in omega (arith, g, h) in
-          let within : v.0 < length xs = omega (arith, low, in_xs) in
-          (v.0, within, (λ e. absurd (omega (arith, low, e))), sym (get_or-take k xs v.0 (pos 0) low) ∙ get_or_default (take k xs) v.0 (pos 0) m v.1 ∙ v.2)
+          let h = v.1 in
+          let g = length-take from xs in
+          let low : v.0 < from = omega (arith, g, h) in
+          let within : v.0 < length xs = omega (arith, g, h) in
+          (v.0, within, (λ above below. omega (arith, low, above)), sym (get_or-take from xs v.0 (pos 0) low) ∙ get_or_default (take from xs) v.0 (pos 0) m v.1 ∙ v.2)
       | inr v ↦
-          let h : k + 1 + v.0 < length xs = let h = v.1 in let g = length-drop (k + 1) xs in omega (arith, g, h) in
-          (k + 1 + v.0, h, (λ e. absurd (omega (arith, e))), sym (get_or-drop (k + 1) xs v.0 (pos 0)) ∙ get_or_default (drop (k + 1) xs) v.0 (pos 0) m v.1 ∙ v.2)
+          let h : to + v.0 < length xs = let h = v.1 in let g = length-drop to xs in omega (arith, g, h) in
+          (to + v.0, h, (λ above below. omega (arith, below)), sym (get_or-drop to xs v.0 (pos 0)) ∙ get_or_default (drop to xs) v.0 (pos 0) m v.1 ∙ v.2)
     ]
 
 -- and what stands at another place is an element of it
-pub at_other_place : (xs : List ℤ) (k j : ℕ) → j < length xs → j ≢ k → Contains (take k xs ++ drop (k + 1) xs) (slice_index_or xs j (pos 0))
-at_other_place xs k j within other =
-    elim (cases_lt j k) [
-      | inl low ↦ Contains-append_left (take k xs) (drop (k + 1) xs) _ (subst (Contains (take k xs)) (get_or-take k xs j (pos 0) low) (contains_at (take k xs) j (let g = length-take k xs in omega (arith, g, low, within))))
-      | inr high ↦
-          let above : k < j = omega (arith, high, other) in
-          let back : k + 1 + (j - (k + 1)) ≡ j = omega (arith, above) in
-          Contains-append_right (take k xs) (drop (k + 1) xs) _ (subst (Contains (drop (k + 1) xs)) (get_or-drop (k + 1) xs (j - (k + 1)) (pos 0) ∙ ap (λ n. slice_index_or xs n (pos 0)) back) (contains_at (drop (k + 1) xs) (j - (k + 1)) (let g = length-drop (k + 1) xs in omega (arith, g, above, within))))
+pub at_other_place : (xs : List ℤ) (from to j : ℕ) → j < length xs → IsOutside from to j → Contains (take from xs ++ drop to xs) (slice_index_or xs j (pos 0))
+at_other_place xs from to j within outside =
+    elim (cases_lt j from) [
+      | inl low ↦ Contains-append_left (take from xs) (drop to xs) _ (subst (Contains (take from xs)) (get_or-take from xs j (pos 0) low) (contains_at (take from xs) j (let g = length-take from xs in omega (arith, g, low, within))))
+      | inr high ↦ elim (cases_lt j to) [
+        | inl below ↦ absurd (outside (omega (arith, high)) below)
+        | inr above ↦
+            let back : to + (j - to) ≡ j = omega (arith, above) in
+            Contains-append_right (take from xs) (drop to xs) _ (subst (Contains (drop to xs)) (get_or-drop to xs (j - to) (pos 0) ∙ ap (λ n. slice_index_or xs n (pos 0)) back) (contains_at (drop to xs) (j - to) (let g = length-drop to xs in omega (arith, g, above, within))))
+      ]
     ]
+
+-- where fewer places are left out, there are more opposites
+pub opposites_narrow : (clause : List ℤ) (from to a b : ℕ) → from ≤ a → b ≤ to → (x : ℤ) → Contains (opposites_outside clause from to) x → Contains (opposites_outside clause a b) x
+opposites_narrow clause from to a b low high x w =
+    let m = contains_map opposite (take from clause ++ drop to clause) x w in
+    let j = other_place clause from to m.0 m.1 in
+    let outside : IsOutside a b j.0 = λ above below. j.2 (omega (arith, low, above)) (omega (arith, high, below)) in
+    subst (Contains (opposites_outside clause a b)) (ap opposite j.3 ∙ sym m.2) (map_contains opposite (take a clause ++ drop b clause) (literal_at clause j.0) (at_other_place clause a b j.0 j.1 outside))
+
+-- what is propagated from some literals is from more
+module _ (clauses : List (List ℤ)) (assumed more : List ℤ) (has : (x : ℤ) → Contains assumed x → Contains more x) where
+  pub propagates_more : {l : ℤ} → Propagates clauses assumed l → Propagates clauses more l
+  propagates_more (assumption w) = assumption (has _ w)
+  propagates_more (unit clause in_clauses in_clause others) = unit clause in_clauses in_clause (λ m w ne. propagates_more (others m w ne))
+
+  pub refutes_more : PropagationRefutes clauses assumed → PropagationRefutes clauses more
+  refutes_more (clause, in_clauses, all_false) = (clause, in_clauses, λ m w. propagates_more (all_false m w))
+
+-- where propagation refutes the clauses without the literals at some places, the clause is new at none of them
+pub none_new : (clauses : List (List ℤ)) (clause : List ℤ) (from to : ℕ) → PropagationRefutes clauses (opposites_outside clause from to) → IsNewAmong clauses clause from to → ⊥
+none_new clauses clause from to refuted (place, low, high, new) =
+    new.0 (refutes_more clauses (opposites_outside clause from to) (opposites_but clause place) (opposites_narrow clause from to place (place + 1) low (let h : place + 1 ≤ to = omega (arith, high) in h)) refuted)
 
 -- where propagation comes to the literals of the decisions, it comes to all of the trail
 module _ (clauses : List (List ℤ)) (assumed trail : List ℤ) (starts reasons : List ℕ) (has : HasReasons clauses trail starts reasons) (decisions : (p : ℕ) → p < length trail → Contains starts p → Propagates clauses assumed (literal_at trail p)) where

@@ -5,3 +5,6 @@ pub mod Assumed
 pub mod Bounded
 pub mod BudgetLogs
 pub mod RunSteps
+pub mod GoingOn
+pub mod Middles
+pub mod Permuted

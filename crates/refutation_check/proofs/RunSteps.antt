@@ -1,5 +1,5 @@
 -- Steps of a run: a literal is assumed to be false, decisions are taken back, a clause is added.
-use Rattle.std.proofs.Common.{◌==◌, ◌^◌, Bool, true, false, zero, suc, ◌≡◌, ◌≢◌, inl, inr, ℕ, ℤ, pos, ◌<◌, ◌+◌, List, [], ◌∷◌, ◌++◌, length, take, drop, slice_index, slice_index_or, None, refl, sym, ap, ◌∙◌, arith, subst, length-append, append_assoc}
+use Rattle.std.proofs.Common.{◌==◌, Bool, true, false, zero, suc, ◌≡◌, inl, inr, ℕ, ℤ, pos, ◌<◌, ◌+◌, List, [], ◌∷◌, ◌++◌, length, take, drop, slice_index, slice_index_or, None, refl, sym, ap, ◌∙◌, arith, subst, length-append, append_assoc}
 use Rattle.std.specs.Prelude.{Contains}
 use Rattle.std.specs.Bool.{OnTrue, OnFalse}
 use Rattle.clause_db.specs.declared.clause.Clause.{Clause}
@@ -7,9 +7,9 @@ use Rattle.std.proofs.lemmas.Bool.{cases_lt}
 use Rattle.std.proofs.Math.Seq.{get_or-append_seam}
 use Rattle.std.proofs.lemmas.List.{get_or_append_left, get_or_default, map-append}
 use Rattle.std.proofs.lemmas.List.Elements.{Contains-append_cases, Contains-append_left, Contains-append_right}
-use Rattle.clause_db.specs.Literal.{variable_of, opposite, IsOrdered}
+use Rattle.clause_db.specs.Literal.{variable_of, opposite, IsOrdered, AreInRange}
 use Rattle.clause_db.specs.Propagation.{Propagates, PropagationRefutes, assumption}
-use Rattle.clause_db.proofs.Ordered.{variable_of-opposite, not_opposite_self, contains_at, read_at_place, same_place, at_member}
+use Rattle.clause_db.proofs.Ordered.{variable_of-opposite, not_opposite_self, contains_at, read_at_place}
 use Rattle.clause_db.proofs.Places.{contains_numbered}
 use Rattle.unit_propagation.specs.Places.{literal_at}
 use Rattle.unit_propagation.specs.Quiet.{IsFalseClause, IsQuiet, HasReasons}
@@ -26,8 +26,9 @@ use Rattle.unit_propagation.specs.declared.watches.Watches.{Watches}
 use Rattle.unit_propagation.proofs.Reasons.{reasons_more_clauses}
 use Rattle.unit_propagation.proofs.Watchings.{watched_add, watched_more}
 use Rattle.refutation_check.proofs.Bounded.{AreBelow}
-use Rattle.refutation_check.specs.Budget.{opposites_but, IsNewAt}
-use Rattle.refutation_check.specs.Runs.{IsRootRun, AreDecidedFrom, IsAssumedFalse, StaysDecided, RefutesWith, AreOthersFalse}
+use Rattle.refutation_check.specs.Budget.{opposites_but, opposites_outside, IsNewAt}
+use Rattle.refutation_check.specs.Distinct.{AreDistinct}
+use Rattle.refutation_check.specs.Runs.{IsRootRun, AreDecidedFrom, IsAssumedFalse, StaysDecided, RefutesWith, IsOutside, AreFalseWithin, AreFalseOutside, AreFalseOutsideBoth}
 use Rattle.refutation_check.proofs.Assumed.{contains_map, map_contains, other_place, at_other_place, trail_propagates, false_clause_refutes}
 
 pub extended_contains : (old new : List ℤ) (l : ℤ) → Extends old new → Contains old l → Contains new l
@@ -100,38 +101,54 @@ true_refutes clauses trail l has w assumed is decided =
       )
     ]
 
-module _ (clause : List ℤ) (ordered : IsOrdered clause) (positive : (l : ℤ) → Contains clause l → 0 < variable_of l) (left_out : ℕ) (within : left_out < length clause) where
-  -- a literal at another place is assumed to be false
-  pub other_assumed : (place : ℕ) → place < length clause → place ≢ left_out → IsAssumedFalse (opposites_but clause left_out) (literal_at clause place)
-  other_assumed place low ne = (
-    map_contains opposite (take left_out clause ++ drop (left_out + 1) clause) (literal_at clause place) (at_other_place clause left_out place low ne),
-    λ w.
-        let m = contains_map opposite (take left_out clause ++ drop (left_out + 1) clause) (literal_at clause place) w in
-        let j = other_place clause left_out m.0 within m.1 in
-        let is : literal_at clause place ≡ opposite (literal_at clause j.0) = m.2 ∙ ap opposite (sym j.3) in
-        let same : place ≡ j.0 = same_place clause place j.0 ordered low j.1 (ap variable_of is ∙ variable_of-opposite (literal_at clause j.0)) in
-        not_opposite_self (literal_at clause place) (positive (literal_at clause place) (contains_at clause place low)) (is ∙ ap (λ k. opposite (literal_at clause k)) (sym same)),
-  )
+-- a literal at a place that is not left out is assumed to be false
+pub other_assumed : (literals : List ℤ) → AreDistinct literals → AreInRange literals → (from to place : ℕ) → place < length literals → IsOutside from to place → IsAssumedFalse (opposites_outside literals from to) (literal_at literals place)
+other_assumed literals distinct in_range from to place low outside = (
+  map_contains opposite (take from literals ++ drop to literals) (literal_at literals place) (at_other_place literals from to place low outside),
+  λ w.
+      let m = contains_map opposite (take from literals ++ drop to literals) (literal_at literals place) w in
+      let j = other_place literals from to m.0 m.1 in
+      let is : literal_at literals place ≡ opposite (literal_at literals j.0) = m.2 ∙ ap opposite (sym j.3) in
+      let same : place ≡ j.0 = distinct place j.0 low j.1 (ap variable_of is ∙ variable_of-opposite (literal_at literals j.0)) in
+      not_opposite_self (literal_at literals place) (in_range place (pos 0) low).0 (is ∙ ap (λ k. opposite (literal_at literals k)) (sym same)),
+)
 
 -- one place more is passed
-pub others_more : (clause : List ℤ) (left_out place : ℕ) (old new : List ℤ) → Extends old new → (place ≢ left_out → Contains new (opposite (literal_at clause place))) → AreOthersFalse clause left_out place old → AreOthersFalse clause left_out (place + 1) new
-others_more clause left_out place old new extends here others k h ne = elim (cases_lt k place) [
-  | inl low ↦ extended_contains old new (opposite (literal_at clause k)) extends (others k low ne)
+pub within_more : (clause : List ℤ) (from place : ℕ) (old new : List ℤ) → Extends old new → Contains new (opposite (literal_at clause place)) → AreFalseWithin clause from place old → AreFalseWithin clause from (place + 1) new
+within_more clause from place old new extends here within k above h = elim (cases_lt k place) [
+  | inl low ↦ extended_contains old new (opposite (literal_at clause k)) extends (within k above low)
   | inr high ↦
       let e : place ≡ k = omega (arith, h, high) in
-      subst (λ n. Contains new (opposite (literal_at clause n))) e (here (λ f. ne (sym e ∙ f)))
+      subst (λ n. Contains new (opposite (literal_at clause n))) e here
 ]
 
+-- all literals are false but those left out, once those of the other part are
+pub others_of_both : (clause : List ℤ) (from to a b : ℕ) (old new : List ℤ) → Extends old new → AreFalseWithin clause from to new → AreFalseOutsideBoth clause from to a b old → AreFalseOutside clause a b new
+others_of_both clause from to a b old new extends within both k h outside = elim (cases_lt k from) [
+  | inl low ↦ extended_contains old new (opposite (literal_at clause k)) extends (both k h (λ above below. omega (arith, low, above)) outside)
+  | inr high ↦ elim (cases_lt k to) [
+    | inl low ↦ within k (omega (arith, high)) low
+    | inr over ↦ extended_contains old new (opposite (literal_at clause k)) extends (both k h (λ above below. omega (arith, over, below)) outside)
+  ]
+]
+
+-- what is outside two halves is outside the whole
+pub outside_both : (clause : List ℤ) (from middle to : ℕ) (trail : List ℤ) → AreFalseOutside clause from to trail → AreFalseOutsideBoth clause from middle middle to trail
+outside_both clause from middle to trail others k h first second = others k h (λ above below. elim (cases_lt k middle) [
+  | inl low ↦ first above low
+  | inr high ↦ second (omega (arith, high)) below
+])
+
 -- where the run is quiet, the place is new
-pub new_in_quiet : (clauses : List (List ℤ)) (clause : List ℤ) (place : ℕ) (trail : List ℤ) → place < length clause → AreOthersFalse clause place (length clause) trail → IsConsistent trail → IsQuiet trail clauses → (Contains trail (literal_at clause place) → ⊥) → IsNewAt clauses clause place
-new_in_quiet clauses clause place trail within others consistent quiet not_true = (
+pub new_in_quiet : (clauses : List (List ℤ)) (clause : List ℤ) (place : ℕ) (trail : List ℤ) → AreFalseOutside clause place (place + 1) trail → IsConsistent trail → IsQuiet trail clauses → (Contains trail (literal_at clause place) → ⊥) → IsNewAt clauses clause place
+new_in_quiet clauses clause place trail others consistent quiet not_true = (
   refutes_nothing clauses trail (opposites_but clause place) consistent quiet on_trail,
   λ reached. not_true (propagation_stays clauses trail (opposites_but clause place) consistent quiet on_trail reached),
 ) where
   on_trail : (l : ℤ) → Contains (opposites_but clause place) l → Contains trail l
   on_trail l w =
       let m = contains_map opposite (take place clause ++ drop (place + 1) clause) l w in
-      let j = other_place clause place m.0 within m.1 in
+      let j = other_place clause place (place + 1) m.0 m.1 in
       subst (Contains trail) (ap opposite j.3 ∙ sym m.2) (others j.0 j.1 j.2)
 
 -- where the literal at the place is true, it is not new
@@ -158,10 +175,6 @@ map_true false f p = tt
 pub map_false : {P Q : Type 0} (b : Bool) → (P → Q) → OnFalse b P → OnFalse b Q
 map_false true f p = tt
 map_false false f p = f p
-
-pub other_assumed_of : (clause : Clause) (left_out place : ℕ) → left_out < length clause.literals.items → place < length clause.literals.items → place ≢ left_out → IsAssumedFalse (opposites_but clause.literals.items left_out) (literal_at clause.literals.items place)
-other_assumed_of clause left_out place within low ne =
-    other_assumed clause.literals.items clause.ordered (λ l w. (at_member (λ m. (0 < variable_of m) × (variable_of m < 2 ^ 63)) clause.literals.items l clause.in_range w).0) left_out within place low ne
 
 pub from_true : {P : Type 0} (b : Bool) → OnTrue b P → b ≡ true → P
 from_true true p e = p

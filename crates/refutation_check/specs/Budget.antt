@@ -1,4 +1,4 @@
-use Rattle.std.specs.Prelude.{◌≡◌, ◌≢◌, ◌⊎◌, ℕ, ◌+◌, ◌<◌, ℤ, List, [], ◌++◌, map, take, drop, length, slice_index_or, Option, Some, None}
+use Rattle.std.specs.Prelude.{◌≡◌, ◌≢◌, ◌⊎◌, ℕ, ◌+◌, ◌<◌, ◌≤◌, ℤ, List, [], ◌++◌, map, take, drop, length, slice_index_or, Option, Some, None}
 use Rattle.clause_db.specs.declared.clause.LogLine.{LogLine}
 use Rattle.clause_db.specs.Literal.{opposite}
 use Rattle.clause_db.specs.Log.{results, IsDerived}
@@ -8,14 +8,22 @@ use Rattle.refutation_check.specs.Faults.{LineFault}
 use Rattle.refutation_check.specs.declared.fault.LogFault.{LogFault}
 use Rattle.refutation_check.specs.declared.fault.LogFault.TheVariants.{Line, Memory}
 
+-- the opposites of the literals of a clause before a place, and from another on
+abbrev pub opposites_outside : List ℤ → ℕ → ℕ → List ℤ
+opposites_outside clause from to = map opposite (take from clause ++ drop to clause)
+
 -- the opposites of all literals of a clause but the one at a place
 abbrev pub opposites_but : List ℤ → ℕ → List ℤ
-opposites_but clause place = map opposite (take place clause ++ drop (place + 1) clause)
+opposites_but clause place = opposites_outside clause place (place + 1)
 
 -- from the opposites of the other literals, propagation comes neither to a contradiction nor to this one
 abbrev pub IsNewAt : List (List ℤ) → List ℤ → ℕ → Type 0
 IsNewAt earlier clause place =
     (PropagationRefutes earlier (opposites_but clause place) → ⊥) × (Propagates earlier (opposites_but clause place) (literal_at clause place) → ⊥)
+
+-- the clause is new at one of these places
+abbrev pub IsNewAmong : List (List ℤ) → List ℤ → ℕ → ℕ → Type 0
+IsNewAmong earlier clause from to = (place : ℕ) × (from ≤ place) × (place < to) × IsNewAt earlier clause place
 
 -- the line is derived, and tells propagation something new
 abbrev pub IsBudgetLine : List (List ℤ) → LogLine → Type 0

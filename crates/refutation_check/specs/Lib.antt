@@ -1,3 +1,4 @@
 pub mod Faults
 pub mod Budget
 pub mod Runs
+pub mod Distinct

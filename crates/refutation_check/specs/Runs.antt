@@ -1,5 +1,5 @@
 -- One trail and one set of watches serve all the tries of a check.
-use Rattle.std.specs.Prelude.{◌≡◌, ◌≢◌, ℕ, ◌<◌, ℤ, List, [], length, slice_index, Contains}
+use Rattle.std.specs.Prelude.{◌≡◌, ◌⊎◌, ℕ, ◌<◌, ◌≤◌, ℤ, List, [], ◌∷◌, ◌++◌, length, slice_index, Contains}
 use Rattle.clause_db.specs.Literal.{opposite}
 use Rattle.clause_db.specs.Propagation.{PropagationRefutes}
 use Rattle.unit_propagation.specs.Places.{literal_at}
@@ -47,7 +47,38 @@ abbrev pub RefutesWith : List (List ℤ) → ℤ → Trail → Type 0
 RefutesWith clauses l old =
     (assumed : List ℤ) → IsAssumedFalse assumed l → AreDecidedFrom assumed old → PropagationRefutes clauses assumed
 
--- the literals of a clause before an end, but for one, are false
-abbrev pub AreOthersFalse : List ℤ → ℕ → ℕ → List ℤ → Type 0
-AreOthersFalse clause left_out end trail =
-    (k : ℕ) → k < end → k ≢ left_out → Contains trail (opposite (literal_at clause k))
+-- a place is not among those from one on and before another
+abbrev pub IsOutside : ℕ → ℕ → ℕ → Type 0
+IsOutside from to k = from ≤ k → k < to → ⊥
+
+-- the literals at these places of a clause are false
+abbrev pub AreFalseWithin : List ℤ → ℕ → ℕ → List ℤ → Type 0
+AreFalseWithin clause from to trail =
+    (k : ℕ) → from ≤ k → k < to → Contains trail (opposite (literal_at clause k))
+
+-- the literals at all other places are
+abbrev pub AreFalseOutside : List ℤ → ℕ → ℕ → List ℤ → Type 0
+AreFalseOutside clause from to trail =
+    (k : ℕ) → k < length clause → IsOutside from to k → Contains trail (opposite (literal_at clause k))
+
+-- the literals at all places other than these and those are
+abbrev pub AreFalseOutsideBoth : List ℤ → ℕ → ℕ → ℕ → ℕ → List ℤ → Type 0
+AreFalseOutsideBoth clause from to other_from other_to trail =
+    (k : ℕ) → k < length clause → IsOutside from to k → IsOutside other_from other_to k → Contains trail (opposite (literal_at clause k))
+
+-- the trail has the same literals, on the same decisions
+abbrev pub IsSameTrail : Trail → Trail → Type 0
+IsSameTrail old new = (new.literals.items ≡ old.literals.items) × (new.starts.items ≡ old.starts.items)
+
+-- a decision was taken right behind the trail
+abbrev pub HasDecidedMore : Trail → Trail → Type 0
+HasDecidedMore old new =
+    (more : List ℤ) × (later : List ℕ) × (new.literals.items ≡ old.literals.items ++ more) × (new.starts.items ≡ old.starts.items ++ length old.literals.items ∷ later)
+
+-- what came onto the trail stands on decisions of its own, and all that was on it is still handled
+abbrev pub GoesOn : Trail → Trail → ℕ → Type 0
+GoesOn old new head = (length old.literals.items ≤ head) × (IsSameTrail old new ⊎ HasDecidedMore old new)
+
+-- the trail is as it was, and handled as far
+abbrev pub IsBack : Trail → Trail → ℕ → Type 0
+IsBack base new head = (length base.literals.items ≤ head) × IsSameTrail base new

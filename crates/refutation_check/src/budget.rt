@@ -7,34 +7,45 @@ ghost use Rattle.refutation_check.specs.Budget.{IsBudgetVerdict, IsFirstBudgetFa
 ghost use Rattle.refutation_check.specs.Runs.{IsRootRun};
 
 use crate::fault::{LogFault, NOTHING_NEW, OTHER_LENGTH, PROPAGATION_REFUTES};
+use crate::halves::is_new_among;
 use crate::lines::fault_of_line;
-use crate::tries::{is_new_at, take_back};
-use clause_db::{Clause, Clauses, Log, LogLine, Memory, Replay, largest_variable};
+use crate::orders::{hint_of, order_of};
+use crate::places::Places;
+use crate::tries::take_back;
+use clause_db::{Clauses, Log, LogLine, Memory, Replay, largest_variable};
 use std::alloc::Global;
 use unit_propagation::{Trail, Watches};
 
-/// Does the clause tell propagation something new?
+/// Does the result of a line tell propagation something new?
 fn strengthens(
+    alloc: Global,
     clauses: &Clauses,
     before: &[LogLine],
     trail: &mut Trail,
     watches: &mut Watches,
-    learnt: &Clause,
+    line: &LogLine,
 ) -> Result<bool, Memory>
-    requires fits { All (λ l. variable_of l < length trail.old.places.items) learnt.now.literals.items }
+    requires fits { All (λ l. variable_of l < length trail.old.places.items) line.now.result.literals.items }
     requires run { IsRootRun (literal_lists clauses.now.list.items ++ results before.now) trail.old watches.old }
     ensures run { IfOk result (λ _. IsRootRun (literal_lists clauses.now.list.items ++ results before.now) trail.new watches.new) }
-    ensures answer { IfOk result (λ new. IsTrue new ↔ StrengthensPropagation (literal_lists clauses.now.list.items ++ results before.now) learnt.now.literals.items) }
+    ensures answer { IfOk result (λ new. IsTrue new ↔ StrengthensPropagation (literal_lists clauses.now.list.items ++ results before.now) line.now.result.literals.items) }
     ensures variables { length trail.new.places.items ≡ length trail.old.places.items }
 {
-    for place in 0..learnt.literals.len() {
-        let new = is_new_at(clauses, before, trail, watches, learnt, place)?;
-        take_back(trail, watches);
-        if new {
-            return Ok(true);
-        }
+    if line.result.literals.is_empty() {
+        return Ok(false);
     }
-    Ok(false)
+    match watches.propagate(clauses, before, trail)? {
+        Some(_) => return Ok(false),
+        None => {}
+    }
+    let order = order_of(alloc, &line.result, hint_of(clauses, before, line))?;
+    let all = Places {
+        from: 0,
+        to: order.literals.len(),
+    };
+    let new = is_new_among(clauses, before, trail, watches, &order, all)?;
+    take_back(trail, watches, 0);
+    Ok(new)
 }
 
 /// Does propagation alone refute the clauses?
@@ -52,6 +63,7 @@ fn is_refuted(clauses: &Clauses, trail: &mut Trail, watches: &mut Watches) -> Re
 
 /// What is wrong with a line of a budget log, if something is, where these lines stand before it.
 fn budget_fault_of_line(
+    alloc: Global,
     replay: &mut Replay,
     clauses: &Clauses,
     before: &[LogLine],
@@ -69,7 +81,7 @@ fn budget_fault_of_line(
         Some(cause) => return Ok(Some(cause)),
         None => {}
     }
-    if strengthens(clauses, before, trail, watches, &line.result)? {
+    if strengthens(alloc, clauses, before, trail, watches, line)? {
         Ok(None)
     } else {
         Ok(Some(NOTHING_NEW))
@@ -116,6 +128,7 @@ pub fn check_budget(alloc: Global, clauses: &Clauses, log: &Log, limit: u32) -> 
     let mut replay = Replay::new(alloc);
     for index in 0..total {
         match budget_fault_of_line(
+            alloc,
             &mut replay,
             clauses,
             &log.lines[..index],

@@ -13,6 +13,7 @@ use Rattle.unit_propagation.proofs.SettleSteps.{watched-push}
 use Rattle.unit_propagation.proofs.Watchings.{watched_open}
 use Rattle.refutation_check.specs.Runs.{IsRun}
 use Rattle.refutation_check.proofs.RunSteps.{stays_decided, decided_there, started_open, false_refutes}
+use Rattle.refutation_check.proofs.GoingOn.{goes_on_decided}
 use Rattle.refutation_check.proofs.tries.decide_false.Goals as goal
 
 pub propagate-requires-clause-fits : goal.propagate-requires-clause-fits
@@ -262,3 +263,43 @@ returns-in-Some-clause-refuted c assumed is decided =
     } in
     let found = subst (IsOutcome clauses new.literals.items) c.in-Some.is f.outcome in
     false_refutes clauses new assumed f.reasons_kept (stays_decided x trail new c.requires.run.started starts extends assumed is decided) found.0 (contains_numbered clauses c.in-Some.field-0 found.0 found.1) found.2
+
+pub returns-in-Some-clause-goes_on : goal.returns-in-Some-clause-goes_on
+returns-in-Some-clause-goes_on c =
+    let clauses : List (List ℤ) = literal_lists c.args.clauses.now.list.items ++ results c.args.before.now in
+    let trail = c.args.trail.now in
+    let n : ℕ = length trail.places.items in
+    let run = c.requires.run.run in
+    let x : ℤ = c.args.literal in
+    let fits : SFits w64 x = search rules in
+    let fits_minus : SFits w64 (pos 0 -ℤ x) = fits_signed_from_abs w64 (pos 0 -ℤ x) (let e : variable_of (pos 0 -ℤ x) ≡ variable_of x = ap variable_of (zero_minus x) ∙ variable_of-opposite x in omega (arith, e, c.requires.in_range)) in
+    let read : to_z w64 (of_z w64 (pos 0 -ℤ to_z w64 (of_z w64 x))) ≡ opposite x = negated_read x fits fits_minus in
+    let e = c.in_ok-push.ensures in
+    let o = c.in_ok-open_level.ensures in
+    let new = c.propagate.new.trail in
+    let f = c.in_ok-propagate.ensures in
+    let pushed : c.push.new.self.literals.items ≡ trail.literals.items ++ opposite x ∷ [] = e.literals ∙ ap (λ m. c.open_level.new.self.literals.items ++ m ∷ []) read ∙ ap (λ t. t ++ opposite x ∷ []) o.literals in
+    let extends : Extends (trail.literals.items ++ opposite x ∷ []) new.literals.items = subst (λ t. Extends t new.literals.items) pushed f.extends in
+    let starts : new.starts.items ≡ trail.starts.items ++ length trail.literals.items ∷ [] = f.starts ∙ e.starts ∙ o.starts in
+    let variables : length new.places.items ≡ n = c.propagate.ensures.variables ∙ c.push.ensures.variables ∙ c.open_level.ensures.variables in
+    goes_on_decided trail new (opposite x) c.propagate.new.self.head starts extends f.watched.starts_before
+
+pub returns-in-None-clause-goes_on : goal.returns-in-None-clause-goes_on
+returns-in-None-clause-goes_on c =
+    let clauses : List (List ℤ) = literal_lists c.args.clauses.now.list.items ++ results c.args.before.now in
+    let trail = c.args.trail.now in
+    let n : ℕ = length trail.places.items in
+    let run = c.requires.run.run in
+    let x : ℤ = c.args.literal in
+    let fits : SFits w64 x = search rules in
+    let fits_minus : SFits w64 (pos 0 -ℤ x) = fits_signed_from_abs w64 (pos 0 -ℤ x) (let e : variable_of (pos 0 -ℤ x) ≡ variable_of x = ap variable_of (zero_minus x) ∙ variable_of-opposite x in omega (arith, e, c.requires.in_range)) in
+    let read : to_z w64 (of_z w64 (pos 0 -ℤ to_z w64 (of_z w64 x))) ≡ opposite x = negated_read x fits fits_minus in
+    let e = c.in_ok-push.ensures in
+    let o = c.in_ok-open_level.ensures in
+    let new = c.propagate.new.trail in
+    let f = c.in_ok-propagate.ensures in
+    let pushed : c.push.new.self.literals.items ≡ trail.literals.items ++ opposite x ∷ [] = e.literals ∙ ap (λ m. c.open_level.new.self.literals.items ++ m ∷ []) read ∙ ap (λ t. t ++ opposite x ∷ []) o.literals in
+    let extends : Extends (trail.literals.items ++ opposite x ∷ []) new.literals.items = subst (λ t. Extends t new.literals.items) pushed f.extends in
+    let starts : new.starts.items ≡ trail.starts.items ++ length trail.literals.items ∷ [] = f.starts ∙ e.starts ∙ o.starts in
+    let variables : length new.places.items ≡ n = c.propagate.ensures.variables ∙ c.push.ensures.variables ∙ c.open_level.ensures.variables in
+    goes_on_decided trail new (opposite x) c.propagate.new.self.head starts extends f.watched.starts_before
