@@ -1,5 +1,5 @@
 -- One decision more, where propagation is complete.
-use Rattle.std.proofs.Common.{◌≡◌, inl, inr, ℕ, ℤ, ◌<◌, ◌+◌, List, [], ◌∷◌, ◌++◌, length, take, set, slice_index, length-append, refl, sym, ap, ◌∙◌, arith, subst}
+use Rattle.std.proofs.Common.{◌≡◌, inl, inr, ℕ, suc, zero, false, ◌==◌, ℤ, ◌<◌, ◌+◌, List, [], ◌∷◌, ◌++◌, length, take, set, slice_index, length-append, refl, sym, ap, ◌∙◌, arith, subst}
 use Rattle.std.specs.Prelude.{Contains}
 use Rattle.std.proofs.Math.Seq.{get_or-append_seam, take-length}
 use Rattle.std.proofs.lemmas.Bool.{cases_lt}
@@ -46,3 +46,7 @@ searching_decided clauses trail starts reasons searching quiet right l free = re
 
   more : HasReasons clauses trail (starts ++ length trail ∷ []) reasons
   more p h = elim (searching.has_reasons p h) [ inl w ↦ inl (Contains-append_left starts (length trail ∷ []) p w) | inr r ↦ inr r ]
+
+pub not_zero : (n : ℕ) → false ≡ (n == 0) → 0 < n
+not_zero zero e = absurd cc
+not_zero (suc n) e = omega arith

@@ -1,7 +1,7 @@
 ghost use Rattle.std.specs.Prelude.{◌≡◌, ℕ, ◌<◌, ◌≤◌, length, slice_index};
 ghost use Rattle.sat_search.specs.Choice.{IsChoice};
 
-use clause_db::variable;
+use clause_db::{LogLine, variable};
 use unit_propagation::Trail;
 
 /// A rule that says which literal is decided next. A search is right by any rule; how long it takes depends on it.
@@ -12,8 +12,14 @@ pub trait Decides {
         requires variables { 0 < length trail.now.places.items }
         ensures { IsChoice trail.now.literals.items trail.now.places.items result };
 
-    /// Hears that decisions were taken back: those on the trail are left.
-    fn undone(&mut self, trail: &Trail);
+    /// Hears what was learnt from a conflict, and by which resolutions.
+    fn learnt(&mut self, line: &LogLine);
+
+    /// Hears that a conflict is dealt with: what was met up to it counts less from here on.
+    fn decay(&mut self);
+
+    /// Hears that the literals behind this place of the trail are about to be freed, or some of them.
+    fn undoing(&mut self, trail: &Trail, kept: usize);
 }
 
 /// The variable of the last decision, or 0 where there is none.
@@ -46,9 +52,8 @@ fn first_free(trail: &Trail, from: usize, to: usize) -> usize
     0
 }
 
-/// A free variable, or 0. Where each decision was made by this rule, no variable before the last one's is free,
-/// and this is the least one; so the variables before it are looked at once, at the end of the search.
-fn least_free(trail: &Trail) -> usize
+/// A free variable, or 0. The variables behind the last decided one are looked at first.
+pub fn least_free(trail: &Trail) -> usize
     requires started { (k : ℕ) → k < length trail.now.starts.items → slice_index trail.now.starts.items k < length trail.now.literals.items }
     requires variables { 0 < length trail.now.places.items }
     ensures within { result < length trail.now.places.items }
@@ -61,18 +66,4 @@ fn least_free(trail: &Trail) -> usize
         return later;
     }
     first_free(trail, 1, next)
-}
-
-/// The least free variable, made false.
-#[derive(Clone, Copy, Debug, PartialEq, Eq)]
-pub struct LeastFree;
-
-impl Decides for LeastFree {
-    fn choose(&mut self, trail: &Trail) -> Option<i64> {
-        let v = least_free(trail);
-        if v == 0 { None } else { Some(-(v as i64)) }
-    }
-
-    // The trail itself says where to look.
-    fn undone(&mut self, _trail: &Trail) {}
 }

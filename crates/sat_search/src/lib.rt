@@ -1,9 +1,11 @@
 // A search for an assignment, by decisions, unit propagation and clauses learnt from conflicts.
 #![tactic(auto)]
 
+mod activities;
 mod decisions;
 mod found;
 mod learning;
+mod restarts;
 mod solver;
 
 pub use found::Found;

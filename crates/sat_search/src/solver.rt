@@ -1,15 +1,18 @@
-ghost use Rattle.std.specs.Prelude.{◌≡◌, ◌≢◌, ℕ, ◌+◌, ◌<◌, ◌≤◌, ◌^◌, ◌++◌, length, IfOk, All, slice_index, slice_index_or, vec_len, IsTrue, false, true, pos, Contains, OnOk, ◌↔◌, ◌-◌, [], ◌∷◌};
+ghost use Rattle.std.specs.Prelude.{◌≡◌, ◌≢◌, ℕ, ◌+◌, ◌<◌, ◌≤◌, ◌^◌, ◌++◌, length, IfOk, All, slice_index, slice_index_or, vec_len, IsTrue, false, true, pos, Contains, OnOk, ◌↔◌, ◌-◌, [], ◌∷◌, List, ℤ};
 ghost use Rattle.clause_db.specs.Log.{literal_lists, results};
-ghost use Rattle.unit_propagation.specs.Quiet.{IsQuiet};
+ghost use Rattle.unit_propagation.specs.Quiet.{IsFalseClause, IsQuiet};
 ghost use Rattle.unit_propagation.specs.Status.{FitsVariables};
 ghost use Rattle.unit_propagation.specs.Watching.{entries, IsWatched};
-ghost use Rattle.sat_search.specs.Learning.{IsSearching};
+ghost use Rattle.sat_search.specs.Latest.{IsLatest};
+ghost use Rattle.sat_search.specs.Learning.{IsSearching, last_start};
 ghost use Rattle.sat_search.specs.Found.{IsFound};
 
-use crate::decisions::{Decides, LeastFree};
+use crate::activities::Activities;
+use crate::decisions::Decides;
 use crate::found::Found;
-use crate::learning::{backjump, learn};
-use clause_db::{Clauses, Log, LogLine, Memory, largest_variable};
+use crate::learning::{Latest, backjump, learn};
+use crate::restarts::Restarts;
+use clause_db::{Clause, Clauses, Log, LogLine, Memory, largest_variable};
 use std::alloc::Global;
 use unit_propagation::{Trail, Value, Watches};
 
@@ -81,6 +84,54 @@ fn push_line(log: &mut Log, line: LogLine) -> Result<(), Memory>
     }
 }
 
+/// Takes back all decisions.
+fn take_back(trail: &mut Trail, watches: &mut Watches)
+    ensures searching { (clauses : List (List ℤ)) → IsSearching clauses trail.old.literals.items trail.old.starts.items trail.old.reasons.items → IsSearching clauses trail.new.literals.items trail.new.starts.items trail.new.reasons.items }
+    ensures variables { length trail.new.places.items ≡ length trail.old.places.items }
+    ensures watched { (clauses : List (List ℤ)) → IsWatched clauses trail.old.literals.items trail.old.starts.items (length trail.old.places.items) watches.old.head watches.old.pairs.items (entries watches.old.lists.items) watches.old.pending.items → IsWatched clauses trail.new.literals.items trail.new.starts.items (length trail.new.places.items) watches.new.head watches.new.pairs.items (entries watches.new.lists.items) watches.new.pending.items }
+    ensures known { watches.new.pairs ≡ watches.old.pairs }
+{
+    if trail.starts.is_empty() {
+        return;
+    }
+    trail.cut(0);
+    watches.rewind(trail);
+}
+
+/// Takes back the decisions behind the latest literal but one of a learnt clause, and makes its latest literal
+/// true, or starts again where that is due.
+fn jump<D: Decides>(
+    rule: &mut D,
+    restarts: &mut Restarts,
+    clauses: &Clauses,
+    lines: &[LogLine],
+    trail: &mut Trail,
+    watches: &mut Watches,
+    learnt: &Clause,
+    latest: Latest,
+) -> Result<(), Memory>
+    requires searching { IsSearching (literal_lists clauses.now.list.items ++ results lines.now) trail.old.literals.items trail.old.starts.items trail.old.reasons.items }
+    requires decided { 0 < length trail.old.starts.items }
+    requires all_false { IsFalseClause trail.old.literals.items learnt.now.literals.items }
+    requires latest { IsLatest trail.old.places.items learnt.now.literals.items (length learnt.now.literals.items) latest.last latest.second }
+    requires after { last_start trail.old.starts.items < latest.last }
+    requires before { latest.second ≤ last_start trail.old.starts.items }
+    requires watched { IsWatched (literal_lists clauses.now.list.items ++ results lines.now) trail.old.literals.items trail.old.starts.items (length trail.old.places.items) watches.old.head watches.old.pairs.items (entries watches.old.lists.items) watches.old.pending.items }
+    ensures searching { OnOk result (IsSearching ((literal_lists clauses.now.list.items ++ results lines.now) ++ learnt.now.literals.items ∷ []) trail.new.literals.items trail.new.starts.items trail.new.reasons.items) }
+    ensures variables { length trail.new.places.items ≡ length trail.old.places.items }
+    ensures watched { OnOk result (IsWatched (literal_lists clauses.now.list.items ++ results lines.now) trail.new.literals.items trail.new.starts.items (length trail.new.places.items) watches.new.head watches.new.pairs.items (entries watches.new.lists.items) watches.new.pending.items) }
+    ensures known { watches.new.pairs ≡ watches.old.pairs }
+{
+    rule.undoing(trail, latest.second);
+    backjump(clauses, lines, trail, watches, learnt, latest)?;
+    if restarts.is_due() {
+        rule.undoing(trail, 0);
+        take_back(trail, watches);
+        return Ok(());
+    }
+    Ok(())
+}
+
 /// A search by this rule over clauses whose variables are at most this one.
 fn search_over<D: Decides>(
     rule: &mut D,
@@ -96,6 +147,7 @@ fn search_over<D: Decides>(
 {
     let mut trail = Trail::new(alloc, variables as usize)?;
     let mut watches = Watches::over(alloc, clauses, variables as usize)?;
+    let mut restarts = Restarts::new();
     let mut log = Log {
         lines: Vec::new(alloc),
     };
@@ -112,7 +164,10 @@ fn search_over<D: Decides>(
                     push_line(&mut log, learnt.line)?;
                     return Ok(Found::Budget(log));
                 }
-                backjump(
+                rule.learnt(&learnt.line);
+                jump(
+                    rule,
+                    &mut restarts,
                     clauses,
                     &log.lines,
                     &mut trail,
@@ -122,7 +177,7 @@ fn search_over<D: Decides>(
                 )?;
                 push_line(&mut log, learnt.line)?;
                 watches.add()?;
-                rule.undone(&trail);
+                rule.decay();
             }
             None => {
                 if !decide(rule, clauses, &log.lines, &mut trail, &watches)? {
@@ -151,6 +206,7 @@ pub fn search(alloc: Global, clauses: &Clauses, limit: u32) -> Result<Found, Mem
     if variables >= 1 << 59 {
         return Err(Memory);
     }
-    let found = search_over(&mut LeastFree, alloc, clauses, variables, limit)?;
+    let mut rule = Activities::new(alloc, variables as usize)?;
+    let found = search_over(&mut rule, alloc, clauses, variables, limit)?;
     Ok(found)
 }

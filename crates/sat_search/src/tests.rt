@@ -41,12 +41,12 @@ fn nothing_to_satisfy(rt: HostRuntime) -> Result<(), Fail> {
 #[test]
 fn a_conflict_and_then_an_assignment(rt: HostRuntime) -> Result<(), Fail> {
     let alloc = rt.alloc();
-    // 1 is made false first, and that makes 2 both.
+    // 1 is made false first, and that makes 2 both. Then 2 is decided as it was last.
     let clauses = list(alloc, &[&[1, 2], &[1, -2], &[-1, 3]])?;
     match search(alloc, &clauses, 2)? {
         Found::Satisfied(values, conflicts) => {
             assert_eq!(rt; conflicts, 1);
-            assert_eq!(rt; values.as_slice(), [true, false, true].as_slice());
+            assert_eq!(rt; values.as_slice(), [true, true, true].as_slice());
         }
         _ => assert!(rt; false),
     }

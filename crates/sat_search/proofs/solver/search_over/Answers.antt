@@ -50,8 +50,8 @@ pub propagate-requires-clause-all_known : goal.propagate-requires-clause-all_kno
 propagate-requires-clause-all_known g c =
     subst (λ (ls : List LogLine). length c.steps.watches.pairs.items ≡ length (literal_lists c.args.clauses.now.list.items ++ results ls)) (sym c.deref.ensures.value) c.steps.invariant.known
 
-pub backjump-requires-clause-watched : goal.backjump-requires-clause-watched
-backjump-requires-clause-watched g c =
+pub jump-requires-clause-watched : goal.jump-requires-clause-watched
+jump-requires-clause-watched g c =
     let trail = c.propagate.new.trail in
     let w = c.propagate.new.self in
     subst (λ (ls : List LogLine). IsWatched (literal_lists c.args.clauses.now.list.items ++ results ls) trail.literals.items trail.starts.items (length trail.places.items) w.head w.pairs.items (entries w.lists.items) w.pending.items) (c.deref.ensures.value ∙ sym c.deref-in-Some-2.ensures.value) c.in_ok-conflict.ensures.watched
@@ -70,8 +70,8 @@ learn-requires-clause-searching g c =
     let e = c.in_ok-conflict.ensures in
     propagated (literal_lists c.args.clauses.now.list.items) c.steps.log.lines.items c.deref.result.now c.deref-in-Some.result.now c.steps.trail.literals.items c.propagate.new.trail.literals.items c.steps.trail.starts.items c.propagate.new.trail.starts.items c.steps.trail.reasons.items c.propagate.new.trail.reasons.items c.steps.invariant.searching c.deref.ensures.value c.deref-in-Some.ensures.value e.extends e.starts e.reasons_kept
 
-pub backjump-requires-clause-searching : goal.backjump-requires-clause-searching
-backjump-requires-clause-searching g c =
+pub jump-requires-clause-searching : goal.jump-requires-clause-searching
+jump-requires-clause-searching g c =
     let e = c.in_ok-conflict.ensures in
     propagated (literal_lists c.args.clauses.now.list.items) c.steps.log.lines.items c.deref.result.now c.deref-in-Some-2.result.now c.steps.trail.literals.items c.propagate.new.trail.literals.items c.steps.trail.starts.items c.propagate.new.trail.starts.items c.steps.trail.reasons.items c.propagate.new.trail.reasons.items c.steps.invariant.searching c.deref.ensures.value c.deref-in-Some-2.ensures.value e.extends e.starts e.reasons_kept
 
@@ -140,9 +140,9 @@ returns-then-len-limit g c =
 pub steps-smaller-in-Some : goal.steps-smaller-in-Some
 steps-smaller-in-Some g c =
     let lines : List LogLine = c.steps.log.lines.items in
-    let trail = c.backjump.new.trail in
+    let trail = c.jump.new.trail in
     let n : ℕ = length c.steps.trail.places.items in
-    let same : length trail.places.items ≡ n = c.backjump.ensures.variables ∙ c.propagate.ensures.variables in
+    let same : length trail.places.items ≡ n = c.jump.ensures.variables ∙ c.propagate.ensures.variables in
     let more : length c.push_line-in-Some.new.log.lines.items ≡ length lines + 1 = ap length c.in_ok-push_line-in-Some-3.ensures ∙ (let g = length-append lines (c.in_ok-learnt-in-Some.learnt.line ∷ []) in omega (arith, g)) in
     let fits = trail_fits c.steps.trail.literals.items c.steps.trail.places.items c.steps.trail.places_right in
     rw (same, more) (fewer_conflicts_left c.args.limit (length lines) n (length c.steps.trail.literals.items) (length trail.literals.items) c.steps.invariant.below fits)
@@ -156,9 +156,9 @@ steps-preserved-in-Some g c =
     let e = c.in_ok-learnt-in-Some.ensures in
     let p = c.in_ok-conflict.ensures in
     let trail = c.propagate.new.trail in
-    let after = c.backjump.new.trail in
+    let after = c.jump.new.trail in
     let items = c.in_ok-push_line-in-Some-3.ensures in
-    let same : length after.places.items ≡ length c.steps.trail.places.items = c.backjump.ensures.variables ∙ c.propagate.ensures.variables in
+    let same : length after.places.items ≡ length c.steps.trail.places.items = c.jump.ensures.variables ∙ c.propagate.ensures.variables in
     let derived = subst (λ (ls : List LogLine). IsDerived (list ++ results ls) learnt.line) c.deref-in-Some.ensures.value e.derived in
     let some : 0 < length trail.starts.items = elim (cases_lt 0 (length trail.starts.items)) [
       | inl h ↦ h
@@ -166,21 +166,21 @@ steps-preserved-in-Some g c =
     ] in
     let strengthens = subst (λ (ls : List LogLine). StrengthensPropagation (list ++ results ls) learnt.line.result.literals.items) c.deref-in-Some.ensures.value (e.strengthens some) in
     let below = fits_false trail.literals.items trail.places.items trail.places_right learnt.line.result.literals.items e.all_false in
-    let fits = fits_push (length after.places.items) (list ++ results lines) learnt.line.result.literals.items (subst (λ n. FitsVariables n (list ++ results lines)) (sym same) i.fits) learnt.line.result.ordered (λ k d h. ((learnt.line.result.in_range k d h).0, (let b = below k d h in omega (arith, b, c.backjump.ensures.variables)))) in
-    let w = c.backjump.new.watches in
+    let fits = fits_push (length after.places.items) (list ++ results lines) learnt.line.result.literals.items (subst (λ n. FitsVariables n (list ++ results lines)) (sym same) i.fits) learnt.line.result.ordered (λ k d h. ((learnt.line.result.in_range k d h).0, (let b = below k d h in omega (arith, b, c.jump.ensures.variables)))) in
+    let w = c.jump.new.watches in
     let a = c.in_ok-add-in-Some.ensures in
     let all : List (List ℤ) = (list ++ results lines) ++ learnt.line.result.literals.items ∷ [] in
-    let pairs_same = ap (λ (v : Vec (Option Watched) Global). length v.items) c.backjump.ensures.known in
+    let pairs_same = ap (λ (v : Vec (Option Watched) Global). length v.items) c.jump.ensures.known in
     let all_long = length-append (list ++ results lines) (learnt.line.result.literals.items ∷ []) in
     let old_known : length w.pairs.items ≡ length (list ++ results lines) = omega (arith, pairs_same, c.propagate.ensures.known, i.known) in
     let low : length w.pairs.items < length all = omega (arith, old_known, all_long) in
-    let jumped : IsWatched (list ++ results lines) after.literals.items after.starts.items (length after.places.items) w.head w.pairs.items (entries w.lists.items) w.pending.items = subst (λ (ls : List LogLine). IsWatched (list ++ results ls) after.literals.items after.starts.items (length after.places.items) w.head w.pairs.items (entries w.lists.items) w.pending.items) c.deref-in-Some-2.ensures.value c.in_ok-backjump-in-Some.ensures.watched in
+    let jumped : IsWatched (list ++ results lines) after.literals.items after.starts.items (length after.places.items) w.head w.pairs.items (entries w.lists.items) w.pending.items = subst (λ (ls : List LogLine). IsWatched (list ++ results ls) after.literals.items after.starts.items (length after.places.items) w.head w.pairs.items (entries w.lists.items) w.pending.items) c.deref-in-Some-2.ensures.value c.in_ok-jump-in-Some.ensures.watched in
     let watched : IsWatched all after.literals.items after.starts.items (length after.places.items) c.add.new.self.head c.add.new.self.pairs.items (entries c.add.new.self.lists.items) c.add.new.self.pending.items = rw (a.pairs, a.pending, a.lists, a.head) (watched_add all after.literals.items after.starts.items (length after.places.items) w.head w.pairs.items (entries w.lists.items) w.pending.items low (watched_more (list ++ results lines) (learnt.line.result.literals.items ∷ []) after.literals.items after.starts.items (length after.places.items) w.head w.pairs.items (entries w.lists.items) w.pending.items jumped)) in
     let known : length c.add.new.self.pairs.items ≡ length all = (let e2 = ap length a.pairs in let g2 = length-append w.pairs.items (None ∷ []) in omega (arith, e2, g2, old_known, all_long)) in
     rw items record {
       variables = same ∙ i.variables;
       fits = subst (FitsVariables (length after.places.items)) (sym (results_push lines learnt.line list)) fits;
-      searching = subst (λ cs. IsSearching cs after.literals.items after.starts.items after.reasons.items) (sym (results_push lines learnt.line list)) (subst (λ (ls : List LogLine). IsSearching ((list ++ results ls) ++ learnt.line.result.literals.items ∷ []) after.literals.items after.starts.items after.reasons.items) c.deref-in-Some-2.ensures.value c.in_ok-backjump-in-Some.ensures.searching);
+      searching = subst (λ cs. IsSearching cs after.literals.items after.starts.items after.reasons.items) (sym (results_push lines learnt.line list)) (subst (λ (ls : List LogLine). IsSearching ((list ++ results ls) ++ learnt.line.result.literals.items ∷ []) after.literals.items after.starts.items after.reasons.items) c.deref-in-Some-2.ensures.value c.in_ok-jump-in-Some.ensures.searching);
       watched = subst (λ cs. IsWatched cs after.literals.items after.starts.items (length after.places.items) c.add.new.self.head c.add.new.self.pairs.items (entries c.add.new.self.lists.items) c.add.new.self.pending.items) (sym (results_push lines learnt.line list)) watched;
       known = subst (λ cs. length c.add.new.self.pairs.items ≡ length cs) (sym (results_push lines learnt.line list)) known;
       log = each_push IsDerived list lines learnt.line i.log derived;
