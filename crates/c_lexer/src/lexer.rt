@@ -202,12 +202,12 @@ fn put(
         None => Ok(()),
         Some(class) => match defines.body(&bytes[start..next]) {
             Some(body) => add(body, place, tokens),
-            None => add_one(
-                Piece {
+            None => add(
+                &[Piece {
                     class,
                     start,
                     end: next,
-                },
+                }],
                 place,
                 tokens,
             ),
@@ -215,30 +215,14 @@ fn put(
     }
 }
 
-fn met_at(piece: Piece, place: Place) -> Token
-    ensures { result ≡ met_at place piece }
+fn met_at(piece: &Piece, place: Place) -> Token
+    ensures { result ≡ met_at place piece.now }
 {
     Token {
         class: piece.class,
         start: piece.start,
         end: piece.end,
         place,
-    }
-}
-
-/// Adds a token, met at the place.
-fn add_one(piece: Piece, place: Place, tokens: &mut Vec<Token>) -> Result<(), Fault>
-    requires few { length tokens.old.items ≤ max_tokens }
-    ensures added { OnOk result (tokens.new.items ≡ tokens.old.items ++ met_at place piece ∷ []) }
-    ensures few { OnOk result (length tokens.new.items ≤ max_tokens) }
-    ensures many { IfErr result (IfRefused (λ at why. (at ≡ place) × (why ≡ cause.TooManyTokens) × (max_tokens < length tokens.old.items + 1))) }
-{
-    if tokens.len() >= MAX_TOKENS {
-        return Err(Fault::Refused(place, Cause::TooManyTokens));
-    }
-    match tokens.push(met_at(piece, place)) {
-        Ok(()) => Ok(()),
-        Err(_) => Err(Fault::Memory),
     }
 }
 
@@ -253,7 +237,7 @@ fn add(pieces: &[Piece], place: Place, tokens: &mut Vec<Token>) -> Result<(), Fa
         return Err(Fault::Refused(place, Cause::TooManyTokens));
     }
     'pieces: for piece in pieces {
-        match tokens.push(met_at(*piece, place)) {
+        match tokens.push(met_at(piece, place)) {
             Ok(()) => {}
             Err(_) => return Err(Fault::Memory),
         }
