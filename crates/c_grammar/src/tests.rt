@@ -37,8 +37,18 @@ fn is_refused(alloc: Global, text: &[u8], column: usize, cause: Cause, token: &[
 fn files(rt: HostRuntime) -> Result<(), Fail> {
     let alloc = rt.alloc();
     assert!(rt; is_file(alloc, b""));
-    assert!(rt; is_file(alloc, b"typedef int T; T f(T a) { if (a) return 1; else if (a - 1) return (T) a; else return f(a) * 2; }"));
-    assert!(rt; is_file(alloc, b"int f(size_t a) { for (int i = 0; i < 3; i++) a += 1; switch (a) { case 1: case 2: ; default: } return 0; }"));
+    assert!(rt;
+        is_file(
+            alloc,
+            b"typedef int T; T f(T a) { if (a) return 1; else if (a - 1) return (T) a; else return f(a) * 2; }"
+        )
+    );
+    assert!(rt;
+        is_file(
+            alloc,
+            b"int f(size_t a) { for (int i = 0; i < 3; i++) a += 1; switch (a) { case 1: case 2: ; default: } return 0; }"
+        )
+    );
     Ok(())
 }
 
@@ -46,10 +56,42 @@ fn files(rt: HostRuntime) -> Result<(), Fail> {
 fn refusals(rt: HostRuntime) -> Result<(), Fail> {
     let alloc = rt.alloc();
     assert!(rt; is_refused(alloc, b"int f( {", 8, Cause::Unexpected, b"{"));
-    assert!(rt; is_refused(alloc, b"void f(void) { goto x; }", 16, Cause::NotInProfile, b"goto"));
-    assert!(rt; is_refused(alloc, b"void f(void) { static int x; }", 16, Cause::NotInProfile, b"static"));
-    assert!(rt; is_refused(alloc, b"typedef int T; int f(int a) { int T; }", 35, Cause::Unexpected, b"T"));
-    assert!(rt; is_refused(alloc, b"int f(void) { return \"x\"; }", 23, Cause::NotInProfile, b"\"x\""));
+    assert!(rt;
+        is_refused(
+            alloc,
+            b"void f(void) { goto x; }",
+            16,
+            Cause::NotInProfile,
+            b"goto"
+        )
+    );
+    assert!(rt;
+        is_refused(
+            alloc,
+            b"void f(void) { static int x; }",
+            16,
+            Cause::NotInProfile,
+            b"static"
+        )
+    );
+    assert!(rt;
+        is_refused(
+            alloc,
+            b"typedef int T; int f(int a) { int T; }",
+            35,
+            Cause::Unexpected,
+            b"T"
+        )
+    );
+    assert!(rt;
+        is_refused(
+            alloc,
+            b"int f(void) { return \"x\"; }",
+            23,
+            Cause::NotInProfile,
+            b"\"x\""
+        )
+    );
     assert!(rt; is_refused(alloc, b"int f(", 99, Cause::UnexpectedEnd, b""));
     Ok(())
 }
