@@ -1,254 +1,250 @@
 -- What holds while a file is read.
-use Rattle.std.specs.Prelude.{All}
-use Rattle.std.proofs.Common.{◌≡◌, ℕ, ◌-◌, ◌+◌, ◌<◌, ◌≤◌, true, false, List, [], ◌∷◌, ◌++◌, length, get_or, take, drop, Option, Some, None, Bool, cond, refl, sym, ap, ◌∙◌, subst, arith, append_assoc}
+use Rattle.std.specs.Prelude.{All, map, fold}
+use Rattle.std.proofs.Common.{◌≡◌, ℕ, ◌-◌, ◌+◌, ◌<◌, ◌≤◌, Bool, true, false, ◌&&◌, cond, List, [], ◌∷◌, ◌++◌, length, take, drop, Option, Some, None, Result, Ok, Err, refl, sym, ap, ◌∙◌, subst, arith, append_assoc}
 use Rattle.std.proofs.lemmas.Bool.{both_ways}
-use Rattle.std.proofs.lemmas.List.{append-nil, append_cancel_left, length-append, length-take-le, length-drop, drop_more, take_more, drop_all, take-append-drop, drop-drop, take_at, drop_at}
-use Rattle.std.proofs.lemmas.List.Elements.{All-nil, All-cons}
-use Rattle.std.proofs.Math.Seq.{take-add}
+use Rattle.std.proofs.lemmas.List.{append-nil, length-append, length-map, drop_all}
+use Rattle.std.proofs.lemmas.List.Elements.{All-nil, All-append, All-map, All-weaker}
+use Rattle.c_tokens.specs.declared.tokens.TokenClass.{TokenClass}
 use Rattle.c_lexer.specs.declared.faults.Cause.{Cause}
-use Rattle.c_lexer.specs.declared.faults.Cause.TheVariants.{BadByte, BadNumber}
-use Rattle.c_tokens.specs.declared.front.NoToken.TheVariants as why
-use Rattle.c_tokens.specs.declared.front.Front.{Front}
+use Rattle.c_lexer.specs.declared.faults.Cause.TheVariants as cause
+use Rattle.c_lexer.specs.declared.faults.Fault.{Fault}
+use Rattle.c_lexer.specs.declared.faults.Fault.TheVariants as fault
+use Rattle.c_lexer.specs.declared.faults.Wrong.{Wrong}
+use Rattle.c_lexer.specs.declared.pieces.Piece.{Piece}
+use Rattle.c_lexer.specs.declared.spots.Spot.{Spot}
 use Rattle.c_lexer.specs.declared.tokens.Place.{Place}
 use Rattle.c_lexer.specs.declared.tokens.Token.{Token}
-use Rattle.c_tokens.specs.declared.tokens.TokenClass.{TokenClass}
-use Rattle.c_tokens.specs.Bytes.{is_space, is_digit}
-use Rattle.c_tokens.specs.Classes.{token_class, IsTokenBefore, BeginsNoToken}
-use Rattle.c_tokens.specs.Fronts.{IsFront, why_none}
-use Rattle.c_lexer.specs.Places.{after_space, place_after}
+use Rattle.c_lexer.specs.Defines.{Definition, defined_as, BodiesStand}
+use Rattle.c_lexer.specs.Lines.{line_end, ReadsLine, TakesLine}
+use Rattle.c_lexer.specs.Pieces.{PieceStands, piece_of, text_between}
+use Rattle.c_lexer.specs.Places.{place_after, ends_blank, spot_after, after_byte}
+use Rattle.c_lexer.specs.Spells.{Point, start, begins_directive, met_at, standing_for, stood, given, Steps, item, directive, SpellsTo, end, step, Spells, max_tokens, IsStuck, item as stuck_item, directive as stuck_directive, many, IsRefused, IfRefused, IsFaultOf, HasNoTokens, Goes}
+use Rattle.c_lexer.specs.Starts.{begins_byte, StandsFirst, IsWrong}
 use Rattle.c_lexer.specs.Texts.{StandsIn}
-use Rattle.c_lexer.specs.Spells.{SpellsTo, end, blank, token, Spells, cause_of, cause_at, IsRefused}
-use Rattle.c_tokens.proofs.TokenLaws.{empty_class, space_class, token_in_line, only_token}
-use Rattle.c_lexer.proofs.PlaceLemmas.{same_place, place_more, place_along, place_bounds}
+use Rattle.c_lexer.proofs.DefineLemmas.{body_stands}
+use Rattle.c_lexer.proofs.LineLemmas.{reads_same, takes_same}
+use Rattle.c_lexer.proofs.PlaceLemmas.{spot_between}
+use Rattle.c_lexer.proofs.StartLemmas.{nothing_in_empty, same_first, wrong_nothing}
 
-not_none : {X : Type 0} (x : X) → ◌≡◌ {A = Option X} (Some x) None → ⊥
-not_none x e = absurd (cc)
+-- ---- one step
 
-same_first : (x y : ℕ) (xs ys : List ℕ) → x ∷ xs ≡ y ∷ ys → x ≡ y
-same_first x y xs ys e = ap (λ l. get_or l 0 0) e
+pub steps_same : {bytes : List ℕ} {from next other : Point} {first tokens : List Token} → Steps bytes from first next → Steps bytes from tokens other → (first ≡ tokens) × (next ≡ other)
+steps_same (item no_hash n class is) (directive hash later takes) = absurd (both_ways _ no_hash hash)
+steps_same (directive hash later takes) (item no_hash n class is) = absurd (both_ways _ no_hash hash)
+steps_same {bytes = bytes} {from = from} (directive hash later takes) (directive too others takes_too) =
+    let one = takes_same takes takes_too in
+    (refl, ap (λ ds. record { at = line_end bytes from.at; defines = ds }) one)
+steps_same {bytes = bytes} {from = from} (item no_hash n class is) (item too m kind is_too) =
+    let one = same_first is is_too in
+    (ap (given bytes from class) one.0 ∙ ap (λ k. given bytes from k m) one.1, ap (λ k. record { at = from.at + k; defines = from.defines }) one.0)
 
-abbrev token_at : List ℕ → List ℕ → TokenClass → Token
-token_at seen text c = record { class = c; start = length seen; end = length (seen ++ text); place = place_after seen }
+no_byte : (bytes : List ℕ) (at : ℕ) → length bytes ≤ at → begins_directive bytes at ≡ true → ⊥
+no_byte bytes at over hash = ends (ends_blank (take at bytes)) (ap (λ text. ends_blank (take at bytes) && begins_byte 35 text) (sym (drop_all at bytes over)) ∙ hash)
+  where
+    ends : (b : Bool) → (b && false) ≡ true → ⊥
+    ends true e = absurd (cc)
+    ends false e = absurd (cc)
 
--- the rest of the file's tokens, after those read so far
-pub record GoesOn (seen rest : List ℕ) (tokens whole : List Token) : Type 0 where
-  pub more : List Token
-  pub joined : whole ≡ tokens ++ more
-  pub spelled : SpellsTo [] seen rest more
+pub no_step_at_end : {bytes : List ℕ} {from next : Point} {first : List Token} → length bytes ≤ from.at → Steps bytes from first next → ⊥
+no_step_at_end {bytes = bytes} {from = from} over (item no_hash n class is) = nothing_in_empty n class (subst (λ text. StandsFirst text n class) (drop_all from.at bytes over) is)
+no_step_at_end {bytes = bytes} {from = from} over (directive hash later takes) = no_byte bytes from.at over hash
 
--- The bytes seen spell the tokens, and all that spells the file begins so.
-pub record Reads (bytes seen rest : List ℕ) (tokens : List Token) : Type 0 where
-  pub onward : (left : List ℕ) (more : List Token) → SpellsTo left seen rest more → SpellsTo left [] bytes (tokens ++ more)
-  pub only : (whole : List Token) → Spells bytes whole → GoesOn seen rest tokens whole
+pub spells_more : {bytes : List ℕ} {stop from next : Point} {tokens first : List Token} → SpellsTo bytes stop from tokens → Steps bytes stop first next → SpellsTo bytes next from (tokens ++ first)
+spells_more {bytes = bytes} {next = next} {first = first} end steps = subst (SpellsTo bytes next _) (append-nil first) (step next steps end)
+spells_more {bytes = bytes} {from = from} {next = next} {first = first} (step {first = front} {later = later} on one rest) steps =
+    subst (SpellsTo bytes next from) (sym (append_assoc front later first)) (step on one (spells_more rest steps))
 
--- ---- what can come next
+-- ---- what is read so far
 
-begins_empty : (text rest : List ℕ) (c : TokenClass) → [] ≡ text ++ rest → IsTokenBefore rest text c → ⊥
-begins_empty [] rest c e is = not_none c (sym is.is_token ∙ empty_class)
-begins_empty (byte ∷ bytes) rest c e is = absurd (cc)
+-- the rest of a file's tokens, after those read so far
+pub record GoesOn (bytes : List ℕ) (point stop : Point) (tokens whole : List Token) : Type 0 where
+  pub rest : List Token
+  pub joined : whole ≡ tokens ++ rest
+  pub spelled : SpellsTo bytes stop point rest
 
-begins_space : (byte : ℕ) (after text rest : List ℕ) (c : TokenClass) → is_space byte ≡ true → byte ∷ after ≡ text ++ rest → IsTokenBefore rest text c → ⊥
-begins_space byte after [] rest c space e is = not_none c (sym is.is_token ∙ empty_class)
-begins_space byte after (x ∷ xs) rest c space e is =
-    not_none c (sym is.is_token ∙ space_class x xs (subst (λ b. is_space b ≡ true) (same_first byte x after (xs ++ rest) e) space))
+-- The bytes up to the point spell the tokens, and all that spells the file begins so.
+pub record Reads (bytes : List ℕ) (point : Point) (tokens : List Token) : Type 0 where
+  pub so_far : SpellsTo bytes point start tokens
+  pub only : (stop : Point) (whole : List Token) → stop.at ≡ length bytes → SpellsTo bytes stop start whole → GoesOn bytes point stop tokens whole
 
-next_space : {seen after : List ℕ} {byte : ℕ} {tokens : List Token} → is_space byte ≡ true → SpellsTo [] seen (byte ∷ after) tokens → SpellsTo [] (seen ++ byte ∷ []) after tokens
-next_space space (blank is more) = more
-next_space {after = after} {byte = byte} space (token text rest c e is more) = absurd (begins_space byte after text rest c space e is)
+pub reads_start : (bytes : List ℕ) → Reads bytes start []
+reads_start bytes = record {
+  so_far = end;
+  only = λ stop whole last spelled. record { rest = whole; joined = refl; spelled = spelled };
+}
 
--- the tokens from a token on
-record From (seen text rest : List ℕ) (c : TokenClass) (tokens : List Token) : Type 0 where
-  later : List Token
-  joined : tokens ≡ token_at seen text c ∷ later
-  spelled : SpellsTo [] (seen ++ text) rest later
-
-next_token : {seen bytes : List ℕ} {tokens : List Token} (text rest : List ℕ) (c : TokenClass) → bytes ≡ text ++ rest → IsTokenBefore rest text c → SpellsTo [] seen bytes tokens → From seen text rest c tokens
-next_token text rest c e is end = absurd (begins_empty text rest c e is)
-next_token text rest c e is (blank {rest = after} {byte = byte} space more) = absurd (begins_space byte after text rest c space e is)
-next_token {seen = seen} text rest c e is (token {tokens = later} other after d f too more) =
-    let one = only_token other text after rest d c (sym f ∙ e) too is in
-    let same_rest : after ≡ rest = append_cancel_left text after rest (ap (λ t. t ++ after) (sym one.0) ∙ sym f ∙ e) in
+goes_on : {bytes : List ℕ} {point stop next : Point} {first rest : List Token} → point.at < length bytes → stop.at ≡ length bytes → Steps bytes point first next → SpellsTo bytes stop point rest
+    → GoesOn bytes next stop first rest
+goes_on before last steps end = absurd (let wrong : ⊥ = omega (arith, before, last) in wrong)
+goes_on {bytes = bytes} {stop = stop} {first = first} before last steps (step {first = front} {later = later} on one rest) =
+    let same = steps_same one steps in
     record {
-      later = later;
-      joined = ap (λ t. token_at seen t d ∷ later) one.0 ∙ ap (λ k. token_at seen text k ∷ later) one.1;
-      spelled = subst (λ t. SpellsTo [] (seen ++ t) rest later) one.0 (subst (λ t. SpellsTo [] (seen ++ other) t later) same_rest more);
+      rest = later;
+      joined = ap (λ ts. ts ++ later) same.0;
+      spelled = subst (λ p. SpellsTo bytes stop p later) same.1 rest;
     }
 
-no_more : {seen : List ℕ} {tokens : List Token} → SpellsTo [] seen [] tokens → tokens ≡ []
-no_more end = refl
-no_more (token text rest c e is more) = absurd (begins_empty text rest c e is)
-
-nothing_next : {seen after : List ℕ} {byte : ℕ} {tokens : List Token} → is_space byte ≡ false → BeginsNoToken (byte ∷ after) → SpellsTo [] seen (byte ∷ after) tokens → ⊥
-nothing_next no_space none (blank is more) = both_ways _ no_space is
-nothing_next no_space none (token text rest c e is more) = none text rest c e is
-
--- ---- steps
-
-pub reads_start : (bytes : List ℕ) → Reads bytes [] bytes []
-reads_start bytes = record {
-  onward = λ left more h. h;
-  only = λ whole h. record { more = whole; joined = refl; spelled = h };
-}
-
-reads_space : (bytes seen after : List ℕ) (byte : ℕ) (tokens : List Token) → is_space byte ≡ true → Reads bytes seen (byte ∷ after) tokens → Reads bytes (seen ++ byte ∷ []) after tokens
-reads_space bytes seen after byte tokens space reads = record {
-  onward = λ left more h. reads.onward left more (blank space h);
-  only = λ whole h. let r = reads.only whole h in record { more = r.more; joined = r.joined; spelled = next_space space r.spelled };
-}
-
-reads_token : (bytes seen text rest : List ℕ) (c : TokenClass) (tokens : List Token) → IsTokenBefore rest text c → Reads bytes seen (text ++ rest) tokens
-    → Reads bytes (seen ++ text) rest (tokens ++ token_at seen text c ∷ [])
-reads_token bytes seen text rest c tokens is reads = record {
-  onward = λ left more h. subst (λ ts. SpellsTo left [] bytes ts) (sym (append_assoc tokens (token_at seen text c ∷ []) more))
-      (reads.onward left (token_at seen text c ∷ more) (token text rest c refl is h));
-  only = λ whole h.
-      let r = reads.only whole h in
-      let from = next_token text rest c refl is r.spelled in
+pub reads_step : (bytes : List ℕ) (point next : Point) (tokens first : List Token) → point.at < length bytes → Steps bytes point first next → Reads bytes point tokens
+    → Reads bytes next (tokens ++ first)
+reads_step bytes point next tokens first before steps reads = record {
+  so_far = spells_more reads.so_far steps;
+  only = λ stop whole last spelled.
+      let r = reads.only stop whole last spelled in
+      let on = goes_on before last steps r.spelled in
       record {
-        more = from.later;
-        joined = r.joined ∙ ap (λ ts. tokens ++ ts) from.joined ∙ sym (append_assoc tokens (token_at seen text c ∷ []) from.later);
-        spelled = from.spelled;
+        rest = on.rest;
+        joined = r.joined ∙ ap (λ ts. tokens ++ ts) on.joined ∙ sym (append_assoc tokens first on.rest);
+        spelled = on.spelled;
       };
 }
 
-reads_end : (bytes seen : List ℕ) (tokens : List Token) → Reads bytes seen [] tokens → Spells bytes tokens
-reads_end bytes seen tokens reads = subst (λ ts. SpellsTo [] [] bytes ts) (append-nil tokens) (reads.onward [] [] end)
+no_more : {bytes : List ℕ} {point stop : Point} {rest : List Token} → length bytes ≤ point.at → SpellsTo bytes stop point rest → rest ≡ []
+no_more over end = refl
+no_more over (step on one rest) = absurd (no_step_at_end over one)
 
-reads_only : (bytes seen : List ℕ) (tokens others : List Token) → Reads bytes seen [] tokens → Spells bytes others → others ≡ tokens
-reads_only bytes seen tokens others reads h =
-    let r = reads.only others h in
-    r.joined ∙ ap (λ ts. tokens ++ ts) (no_more r.spelled) ∙ append-nil tokens
+pub reads_end : (bytes : List ℕ) (point : Point) (tokens : List Token) → point.at ≡ length bytes → Reads bytes point tokens → Spells bytes tokens
+reads_end bytes point tokens last reads = record { stop = point; last = last; spelled = reads.so_far }
 
-reads_fault : (bytes seen after : List ℕ) (byte : ℕ) (tokens : List Token) (place : Place) (cause : Cause) → bytes ≡ seen ++ byte ∷ after → is_space byte ≡ false → BeginsNoToken (byte ∷ after)
-    → place ≡ place_after seen → cause ≡ cause_at byte → Reads bytes seen (byte ∷ after) tokens → IsRefused bytes place cause
-reads_fault bytes seen after byte tokens place cause whole no_space none at why reads = record {
-  before = seen;
-  first = byte;
-  after = after;
-  tokens = tokens ++ [];
-  whole = whole;
-  spelled = reads.onward (byte ∷ after) [] end;
-  no_space = no_space;
-  no_token = none;
-  at = at;
-  why = why;
+pub reads_only : (bytes : List ℕ) (point : Point) (tokens others : List Token) → length bytes ≤ point.at → Reads bytes point tokens → Spells bytes others → others ≡ tokens
+reads_only bytes point tokens others over reads spells =
+    let r = reads.only spells.stop others spells.last spells.spelled in
+    r.joined ∙ ap (λ ts. tokens ++ ts) (no_more over r.spelled) ∙ append-nil tokens
+
+-- ---- where nothing goes on
+
+err_same : (new : Option Definition) (wrong : Wrong) → ◌≡◌ {A = Result (Option Definition) Wrong} (Ok new) (Err wrong) → ⊥
+err_same new wrong e = absurd (cc)
+
+stuck_many : {bytes : List ℕ} {from next : Point} {count : ℕ} {place : Place} {why : Cause} {first : List Token} → IsStuck bytes from count place why → Steps bytes from first next
+    → max_tokens < count + length first
+stuck_many (stuck_item no_hash wrong is) (item too n class stands) = absurd (wrong_nothing is n class stands)
+stuck_many (stuck_item no_hash wrong is) (directive hash later takes) = absurd (both_ways _ no_hash hash)
+stuck_many (stuck_directive hash wrong reads) (item no_hash n class stands) = absurd (both_ways _ no_hash hash)
+stuck_many (stuck_directive hash wrong reads) (directive too later takes) = absurd (err_same takes.new wrong (reads_same takes.reads reads))
+stuck_many {count = count} (many first on steps over) one = subst (λ ts. max_tokens < count + length ts) (steps_same steps one).0 over
+
+nothing_more : {bytes : List ℕ} {point stop : Point} {rest : List Token} {place : Place} {why : Cause} (tokens : List Token) → point.at < length bytes → stop.at ≡ length bytes
+    → IsStuck bytes point (length tokens) place why → SpellsTo bytes stop point rest → length (tokens ++ rest) ≤ max_tokens → ⊥
+nothing_more tokens before last stuck end few = absurd (let wrong : ⊥ = omega (arith, before, last) in wrong)
+nothing_more tokens before last stuck (step {first = first} {later = later} on one rest) few =
+    let over = stuck_many stuck one in
+    let inner = length-append first later in
+    let outer = length-append tokens (first ++ later) in
+    let wrong : ⊥ = omega (arith, over, inner, outer, few) in
+    wrong
+
+pub stuck_none : (bytes : List ℕ) (point : Point) (tokens whole : List Token) (place : Place) (why : Cause) → point.at < length bytes → Reads bytes point tokens
+    → IsStuck bytes point (length tokens) place why → Spells bytes whole → length whole ≤ max_tokens → ⊥
+stuck_none bytes point tokens whole place why before reads stuck spells few =
+    let r = reads.only spells.stop whole spells.last spells.spelled in
+    nothing_more tokens before spells.last stuck r.spelled (subst (λ ts. length ts ≤ max_tokens) r.joined few)
+
+pub fault_none : (bytes : List ℕ) (point : Point) (tokens : List Token) → point.at < length bytes → Reads bytes point tokens → (why : Fault) → IfRefused (IsStuck bytes point (length tokens)) why
+    → HasNoTokens bytes why
+fault_none bytes point tokens before reads (fault.Refused place why) stuck = λ whole spells few. stuck_none bytes point tokens whole place why before reads stuck spells few
+fault_none bytes point tokens before reads fault.Memory stuck = tt
+
+pub fault_refused : (bytes : List ℕ) (point : Point) (tokens : List Token) → point.at < length bytes → length tokens ≤ max_tokens → Reads bytes point tokens → (why : Fault)
+    → IfRefused (IsStuck bytes point (length tokens)) why → IsFaultOf bytes why
+fault_refused bytes point tokens before few reads (fault.Refused place why) stuck = record {
+  reached = point;
+  tokens = tokens;
+  within = before;
+  spelled = reads.so_far;
+  few = few;
+  stuck = stuck;
 }
-
-reads_nothing : (bytes seen after : List ℕ) (byte : ℕ) (tokens : List Token) → is_space byte ≡ false → BeginsNoToken (byte ∷ after) → Reads bytes seen (byte ∷ after) tokens
-    → (whole : List Token) → Spells bytes whole → ⊥
-reads_nothing bytes seen after byte tokens no_space none reads whole h = nothing_next no_space none (reads.only whole h).spelled
-
--- ---- the same, by the number of bytes read
-
-pub record Stands (bytes : List ℕ) (at : ℕ) (place : Place) (tokens : List Token) : Type 0 where
-  pub within : at ≤ length bytes
-  pub placed : place ≡ place_after (take at bytes)
-  pub reads : Reads bytes (take at bytes) (drop at bytes) tokens
-
-pub stands_start : (bytes : List ℕ) → Stands bytes 0 (record { line = 1; column = 1 }) []
-stands_start bytes = record { within = omega arith; placed = refl; reads = reads_start bytes }
-
-pub stands_bounds : (bytes : List ℕ) (at : ℕ) (place : Place) (tokens : List Token) → Stands bytes at place tokens → (place.line ≤ at + 1) × (place.column ≤ at + 1)
-stands_bounds bytes at place tokens stands =
-    let bounds = place_bounds (take at bytes) in
-    let count = length-take-le at bytes stands.within in
-    let lines = ap (λ p. p.line) stands.placed in
-    let columns = ap (λ p. p.column) stands.placed in
-    (omega (arith, bounds.0, count, lines), omega (arith, bounds.1, count, columns))
-
-pub stands_space : (bytes : List ℕ) (at byte : ℕ) (place : Place) (tokens : List Token) → at < length bytes → byte ≡ get_or bytes at 0 → is_space byte ≡ true → Stands bytes at place tokens
-    → Stands bytes (at + 1) (after_space place byte) tokens
-stands_space bytes at byte place tokens within is space stands =
-    let rest : drop at bytes ≡ byte ∷ drop (at + 1) bytes = drop_more bytes at 0 within ∙ ap (λ b. b ∷ drop (at + 1) bytes) (sym is) in
-    let seen : take (at + 1) bytes ≡ take at bytes ++ byte ∷ [] = take_more bytes at 0 within ∙ ap (λ b. take at bytes ++ b ∷ []) (sym is) in
-    record {
-      within = omega (arith, within);
-      placed = ap (λ p. after_space p byte) stands.placed ∙ sym (place_more (take at bytes) byte) ∙ ap place_after (sym seen);
-      reads = subst (λ s. Reads bytes s (drop (at + 1) bytes) tokens) (sym seen)
-          (reads_space bytes (take at bytes) (drop (at + 1) bytes) byte tokens space (subst (λ r. Reads bytes (take at bytes) r tokens) rest stands.reads));
-    }
-
-same_token : (c : TokenClass) (place q : Place) (a b d e : ℕ) → a ≡ b → d ≡ e → place ≡ q
-    → ◌≡◌ {A = Token} (record { class = c; start = a; end = d; place = place }) (record { class = c; start = b; end = e; place = q })
-same_token c place q a b d e start ends places = cc
-
-pub stands_token : (bytes : List ℕ) (at : ℕ) (place : Place) (tokens : List Token) (front : Front) → at < length bytes → IsFront (drop at bytes) front → Stands bytes at place tokens
-    → Stands bytes (at + front.length) (record { line = place.line; column = place.column + front.length })
-    (tokens ++ record { class = front.class; start = at; end = at + front.length; place = place } ∷ [])
-stands_token bytes at place tokens front within is stands =
-    let n = front.length in
-    let text = take n (drop at bytes) in
-    let left = length-drop at bytes in
-    let fits : at + n ≤ length bytes = omega (arith, is.within, left, within) in
-    let seen : take (at + n) bytes ≡ take at bytes ++ text = take-add at n bytes in
-    let rest : drop n (drop at bytes) ≡ drop (at + n) bytes = drop-drop n at bytes in
-    let count = length-take-le n (drop at bytes) is.within in
-    let so_far = length-take-le at bytes stands.within in
-    let joined = length-append (take at bytes) text in
-    let along = place_along (take at bytes) text (token_in_line text front.class is.token.is_token) in
-    let column : place.column + n ≡ (place_after (take at bytes)).column + length text = omega (arith, ap (λ p. p.column) stands.placed, count) in
-    record {
-      within = fits;
-      placed = same_place _ _ _ _ (ap (λ p. p.line) stands.placed) column ∙ sym along ∙ ap place_after (sym seen);
-      reads = subst (λ t. Reads bytes (take (at + n) bytes) (drop (at + n) bytes) (tokens ++ t ∷ []))
-          (same_token front.class _ place _ at _ (at + n) so_far (omega (arith, joined, so_far, count)) (sym stands.placed))
-          (subst (λ s. Reads bytes s (drop (at + n) bytes) (tokens ++ token_at (take at bytes) text front.class ∷ [])) (sym seen)
-          (subst (λ r. Reads bytes (take at bytes ++ text) r (tokens ++ token_at (take at bytes) text front.class ∷ [])) rest
-          (reads_token bytes (take at bytes) text (drop n (drop at bytes)) front.class tokens is.token
-          (subst (λ r. Reads bytes (take at bytes) r tokens) (sym (take-append-drop n (drop at bytes))) stands.reads))));
-    }
-
-pub stands_spelled : (bytes : List ℕ) (at : ℕ) (place : Place) (tokens : List Token) → length bytes ≤ at → Stands bytes at place tokens → Spells bytes tokens
-stands_spelled bytes at place tokens over stands = reads_end bytes (take at bytes) tokens (subst (λ r. Reads bytes (take at bytes) r tokens) (drop_all at bytes over) stands.reads)
-
-pub stands_only : (bytes : List ℕ) (at : ℕ) (place : Place) (tokens others : List Token) → length bytes ≤ at → Stands bytes at place tokens → Spells bytes others → others ≡ tokens
-stands_only bytes at place tokens others over stands h =
-    reads_only bytes (take at bytes) tokens others (subst (λ r. Reads bytes (take at bytes) r tokens) (drop_all at bytes over) stands.reads) h
-
-rest_at : (bytes : List ℕ) (at byte : ℕ) → at < length bytes → byte ≡ get_or bytes at 0 → drop at bytes ≡ byte ∷ drop (at + 1) bytes
-rest_at bytes at byte within is = drop_more bytes at 0 within ∙ ap (λ b. b ∷ drop (at + 1) bytes) (sym is)
-
-pub stands_fault : (bytes : List ℕ) (at byte : ℕ) (place : Place) (tokens : List Token) (cause : Cause) → at < length bytes → byte ≡ get_or bytes at 0 → is_space byte ≡ false
-    → BeginsNoToken (drop at bytes) → cause ≡ cause_at byte → Stands bytes at place tokens → IsRefused bytes place cause
-stands_fault bytes at byte place tokens cause within is no_space none why stands =
-    let rest = rest_at bytes at byte within is in
-    reads_fault bytes (take at bytes) (drop (at + 1) bytes) byte tokens place cause (sym (take-append-drop at bytes) ∙ ap (λ r. take at bytes ++ r) rest) no_space
-    (subst BeginsNoToken rest none) stands.placed why (subst (λ r. Reads bytes (take at bytes) r tokens) rest stands.reads)
-
-pub stands_nothing : (bytes : List ℕ) (at byte : ℕ) (place : Place) (tokens : List Token) → at < length bytes → byte ≡ get_or bytes at 0 → is_space byte ≡ false
-    → BeginsNoToken (drop at bytes) → Stands bytes at place tokens → (whole : List Token) → Spells bytes whole → ⊥
-stands_nothing bytes at byte place tokens within is no_space none stands =
-    let rest = rest_at bytes at byte within is in
-    reads_nothing bytes (take at bytes) (drop (at + 1) bytes) byte tokens no_space (subst BeginsNoToken rest none) (subst (λ r. Reads bytes (take at bytes) r tokens) rest stands.reads)
-
-cause_step : (b : Bool) → cause_of (cond b why.BadNumber (why.BadByte 0)) ≡ cond b BadNumber BadByte
-cause_step true = refl
-cause_step false = refl
-
-pub cause_is : (bytes : List ℕ) (at : ℕ) → at < length bytes → cause_of (why_none (drop at bytes)) ≡ cause_at (get_or bytes at 0)
-cause_is bytes at within = ap (λ rest. cause_of (why_none rest)) (drop_more bytes at 0 within) ∙ cause_step (is_digit (get_or bytes at 0))
+fault_refused bytes point tokens before few reads fault.Memory stuck = tt
 
 -- ---- where the tokens stand
 
-token_stands : (whole seen text rest : List ℕ) (c : TokenClass) → whole ≡ seen ++ text ++ rest → IsTokenBefore rest text c → StandsIn whole (token_at seen text c)
-token_stands whole seen [] rest c e is = absurd (not_none c (sym is.is_token ∙ empty_class))
-token_stands whole seen (byte ∷ bytes) rest c e is =
-    let text = byte ∷ bytes in
-    let joined = length-append seen text in
-    let after = length-append (seen ++ text) rest in
-    let cut : length (seen ++ text) - length seen ≡ length text = omega (arith, joined) in
-    let same : take (length (seen ++ text) - length seen) (drop (length seen) whole) ≡ text =
-    ap (λ n. take n (drop (length seen) whole)) cut ∙ ap (λ l. take (length text) l) (ap (drop (length seen)) (e ∙ append_assoc seen text rest) ∙ drop_at seen (text ++ rest) (length seen) refl)
-    ∙ take_at text rest (length text) refl in
-    record {
-      some = omega (arith, joined);
-      within = omega (arith, ap length e, after);
-      class = ap token_class same ∙ is.is_token;
-    }
+pub stood_stand : (bytes : List ℕ) (ds : List Definition) (class : Option TokenClass) (first after : ℕ) → BodiesStand bytes ds → All (PieceStands bytes) (piece_of class first after)
+    → All (PieceStands bytes) (stood bytes ds class first after)
+stood_stand bytes ds None first after all stands = All-nil (PieceStands bytes)
+stood_stand bytes ds (Some class) first after all stands = by (defined_as ds (text_between bytes first after)) refl
+  where
+    by : (found : Option (List Piece)) → defined_as ds (text_between bytes first after) ≡ found → All (PieceStands bytes) (standing_for found (piece_of (Some class) first after))
+    by None e = stands
+    by (Some body) e = body_stands bytes (text_between bytes first after) ds all body e
 
-pub spelled_stand : {left seen bytes : List ℕ} {tokens : List Token} → SpellsTo left seen bytes tokens → (whole : List ℕ) → whole ≡ seen ++ bytes → All (StandsIn whole) tokens
-spelled_stand end whole e = All-nil (StandsIn whole)
-spelled_stand {seen = seen} (blank {rest = rest} {byte = byte} is more) whole e = spelled_stand more whole (e ∙ sym (append_assoc seen (byte ∷ []) rest))
-spelled_stand {seen = seen} (token {tokens = later} text rest c f is more) whole e =
-    let joined = e ∙ ap (λ b. seen ++ b) f ∙ sym (append_assoc seen text rest) in
-    All-cons (StandsIn whole) (token_at seen text c) later (token_stands whole seen text rest c joined is) (spelled_stand more whole joined)
+met_stands : (bytes : List ℕ) (place : Place) (piece : Piece) → PieceStands bytes piece → StandsIn bytes (met_at place piece)
+met_stands bytes place piece is = record { some = is.some; within = is.within; class = is.class }
+
+pub more_stand : (bytes : List ℕ) (place : Place) (tokens : List Token) (pieces : List Piece) → All (StandsIn bytes) tokens → All (PieceStands bytes) pieces
+    → All (StandsIn bytes) (tokens ++ map (met_at place) pieces)
+more_stand bytes place tokens pieces all stands =
+    All-append (StandsIn bytes) tokens (map (met_at place) pieces) all
+    (All-map (StandsIn bytes) (met_at place) pieces (All-weaker (PieceStands bytes) (λ piece. StandsIn bytes (met_at place piece)) (met_stands bytes place) pieces stands))
+
+-- ---- all that holds
+
+pub record Stands (bytes : List ℕ) (at : ℕ) (spot : Spot) (ds : List Definition) (tokens : List Token) : Type 0 where
+  pub within : at ≤ length bytes
+  pub spotted : spot ≡ spot_after (take at bytes)
+  pub reads : Reads bytes (record { at = at; defines = ds }) tokens
+  pub few : length tokens ≤ max_tokens
+  pub bodies : BodiesStand bytes ds
+  pub stand : All (StandsIn bytes) tokens
+
+pub stands_start : (bytes : List ℕ) (ds : List Definition) (tokens : List Token) → ds ≡ [] → tokens ≡ []
+    → Stands bytes 0 (record { place = record { line = 1; column = 1 }; blank = true }) ds tokens
+stands_start bytes ds tokens none empty = record {
+  within = omega arith;
+  spotted = refl;
+  reads = subst (λ ts. Reads bytes (record { at = 0; defines = ds }) ts) (sym empty) (subst (λ d. Reads bytes (record { at = 0; defines = d }) []) (sym none) (reads_start bytes));
+  few = subst (λ ts. length ts ≤ max_tokens) (sym empty) (omega arith);
+  bodies = subst (BodiesStand bytes) (sym none) (All-nil (λ d. All (PieceStands bytes) d.body));
+  stand = subst (All (StandsIn bytes)) (sym empty) (All-nil (StandsIn bytes));
+}
+
+pub stands_step : (bytes : List ℕ) (at next : ℕ) (spot : Spot) (ds later : List Definition) (tokens more : List Token) → at < length bytes → Stands bytes at spot ds tokens
+    → Goes bytes (record { at = at; defines = ds }) (record { at = next; defines = later }) tokens more → at < next → next ≤ length bytes → BodiesStand bytes later → length more ≤ max_tokens
+    → All (StandsIn bytes) more → Stands bytes next (fold after_byte spot (take (next - at) (drop at bytes))) later more
+stands_step bytes at next spot ds later tokens more before stands goes further within bodies few stand = record {
+  within = within;
+  spotted = ap (λ s. fold after_byte s (take (next - at) (drop at bytes))) stands.spotted ∙ spot_between bytes at next (omega (arith, further));
+  reads = subst (λ ts. Reads bytes (record { at = next; defines = later }) ts) (sym goes.joined) (reads_step bytes _ _ tokens goes.first before goes.steps stands.reads);
+  few = few;
+  bodies = bodies;
+  stand = stand;
+}
+
+-- ---- what stops a step
+
+pub stuck_counted : (bytes : List ℕ) (from : Point) (count : ℕ) (why : Fault) → IfRefused (λ place cause. (n : ℕ) → IsStuck bytes from n place cause) why → IfRefused (IsStuck bytes from count) why
+stuck_counted bytes from count (fault.Refused place why) stuck = stuck count
+stuck_counted bytes from count fault.Memory stuck = tt
+
+pub stuck_by_many : (bytes : List ℕ) (from next : Point) (count size : ℕ) (met : Place) (first : List Token) (why : Fault) → met ≡ place_after (take from.at bytes) → Steps bytes from first next
+    → length first ≡ size → IfRefused (λ place c. (place ≡ met) × (c ≡ cause.TooManyTokens) × (max_tokens < count + size)) why → IfRefused (IsStuck bytes from count) why
+stuck_by_many bytes from next count size met first (fault.Refused place why) placed steps counted (at, is, over) =
+    let all : max_tokens < count + length first = omega (arith, over, counted) in
+    subst (λ p. IsStuck bytes from count p why) (sym (at ∙ placed)) (subst (λ c. IsStuck bytes from count (place_after (take from.at bytes)) c) (sym is) (many first next steps all))
+stuck_by_many bytes from next count size met first fault.Memory placed steps counted says = tt
+
+-- ---- steps of the code
+
+pub steps_plain : (bytes : List ℕ) (from : Point) (n : ℕ) (class : Option TokenClass) → begins_directive bytes from.at ≡ false → StandsFirst (drop from.at bytes) n class
+    → Steps bytes from (given bytes from class n) (record { at = from.at + n; defines = from.defines })
+steps_plain bytes from n class no_hash is = item no_hash n class is
+
+pub stuck_plain : (bytes : List ℕ) (from : Point) (count : ℕ) (wrong : Wrong) → begins_directive bytes from.at ≡ false → IsWrong (drop from.at bytes) wrong
+    → IsStuck bytes from count (place_after (take (from.at + wrong.offset) bytes)) wrong.cause
+stuck_plain bytes from count wrong no_hash is = stuck_item no_hash wrong is
+
+pub goes_plain : (bytes : List ℕ) (at n : ℕ) (class : Option TokenClass) (met : Place) (ds : List Definition) (tokens more : List Token) → met ≡ place_after (take at bytes)
+    → begins_directive bytes at ≡ false → StandsFirst (drop at bytes) n class → more ≡ tokens ++ map (met_at met) (stood bytes ds class at (at + n))
+    → Goes bytes (record { at = at; defines = ds }) (record { at = at + n; defines = ds }) tokens more
+goes_plain bytes at n class met ds tokens more placed no_hash is added = record {
+  first = given bytes (record { at = at; defines = ds }) class n;
+  steps = item no_hash n class is;
+  joined = added ∙ ap (λ p. tokens ++ map (met_at p) (stood bytes ds class at (at + n))) placed;
+}
+
+pub goes_line : (bytes : List ℕ) (at next : ℕ) (ds later : List Definition) (tokens : List Token) → next ≡ line_end bytes at → begins_directive bytes at ≡ true → TakesLine bytes at ds later
+    → Goes bytes (record { at = at; defines = ds }) (record { at = next; defines = later }) tokens tokens
+goes_line bytes at next ds later tokens ends hash takes = record {
+  first = [];
+  steps = subst (λ k. Steps bytes (record { at = at; defines = ds }) [] (record { at = k; defines = later })) (sym ends) (directive hash later takes);
+  joined = sym (append-nil tokens);
+}

@@ -2,8 +2,8 @@
 use Rattle.std.proofs.Common.{◌≡◌, ℕ, zero, suc, ◌+◌, ◌-◌, ◌<◌, Bool, true, false, cond, eqb, List, [], ◌∷◌, ◌++◌, length, get_or, take, drop, map, Option, Some, None, refl, sym, ap, ◌∙◌, subst, inl, inr, arith}
 use Rattle.std.specs.Prelude.{IfSome, IfNone}
 use Rattle.std.specs.List.{list_all, prefix_len}
-use Rattle.std.specs.Option.{option_map}
-use Rattle.std.proofs.lemmas.Bool.{and_parts, and_from, or_parts, or_from, both_ways, false_from_ne_true, true_from_ne_false, cases_order}
+use Rattle.std.specs.Option.{option_map, is_some}
+use Rattle.std.proofs.lemmas.Bool.{and_parts, and_from, or_parts, or_from, both_ways, false_from_ne_true, cases_order, eqb-true}
 use Rattle.std.proofs.lemmas.List.{length-take-le, take_at, drop_at, take-append-drop, get_or-take, take_rest}
 use Rattle.std.proofs.lemmas.List.Sums.{prefix_len-le-length}
 use Rattle.c_tokens.specs.declared.front.Front.{Front}
@@ -13,11 +13,14 @@ use Rattle.c_tokens.specs.declared.tokens.TokenClass.{TokenClass}
 use Rattle.c_tokens.specs.declared.tokens.TokenClass.TheVariants as class
 use Rattle.c_tokens.specs.Bytes.{is_letter, is_digit, is_name_byte}
 use Rattle.c_tokens.specs.Tables.{keyword_of, punctuators, punctuator_of, written_so}
-use Rattle.c_tokens.specs.Classes.{decimal_value, is_constant, name_class, token_class, goes_on, IsTokenBefore, BeginsNoToken}
+use Rattle.c_tokens.specs.Classes.{name_class, token_class, goes_on, IsTokenBefore, BeginsNoToken}
+use Rattle.c_tokens.specs.Constants.{constant_of}
+use Rattle.rvt_num.specs.Number.{Number}
+use Rattle.c_tokens.proofs.ConstantLemmas.{constant_bytes}
 use Rattle.c_tokens.specs.Fronts.{IsFront, begins_with, first_front}
 use Rattle.c_tokens.proofs.Runs.{begins, all-run, run-stops, run-covers, run-is}
 use Rattle.c_tokens.proofs.TableLemmas.{punctuators_are, begins-append, first_punctuator, no_first_punctuator}
-use Rattle.c_tokens.proofs.ClassLemmas.{letter_no_digit, digit_no_letter, letter_in_name, digit_in_name, name_all, constant_all, no_name, no_constant, class_of_name, class_of_constant, empty_class, letter_class, digit_class, other_class}
+use Rattle.c_tokens.proofs.ClassLemmas.{letter_no_digit, digit_no_letter, letter_in_name, digit_in_name, name_all, no_name, no_constant, class_of_name, empty_class, letter_class, digit_class, other_class}
 
 -- ---- two fronts of one text
 
@@ -33,6 +36,10 @@ not_none x e = absurd (cc)
 
 pub same_first : (x y : ℕ) (xs ys : List ℕ) → x ∷ xs ≡ y ∷ ys → x ≡ y
 same_first x y xs ys e = ap (λ l. get_or l 0 0) e
+
+pub no_some : {X : Type 0} (o : Option X) → o ≡ None → is_some o ≡ true → ⊥
+no_some None h is = cc
+no_some (Some x) h is = cc
 
 -- where both are tokens, they are one
 pub only_token : (first second after rest : List ℕ) (c d : TokenClass) → first ++ after ≡ second ++ rest → IsTokenBefore after first c → IsTokenBefore rest second d → (first ≡ second) × (c ≡ d)
@@ -86,7 +93,7 @@ name_token (byte ∷ bytes) after some letter all stops =
     record {
       is_token = class_of_name (byte ∷ bytes) (and_from (is_letter byte) (list_all is_name_byte bytes) letter rest.1);
       longest = λ longer more e less. no_longer_name byte bytes after longer more letter all stops e less;
-      apart = λ is. absurd (both_ways _ (no_constant byte bytes (letter_no_digit byte letter)) is);
+      apart = λ is. absurd (no_some _ (no_constant byte bytes (letter_no_digit byte letter)) is);
     }
 
 pub name_front : (text : List ℕ) → 0 < length text → is_letter (get_or text 0 0) ≡ true
@@ -103,14 +110,6 @@ name_front text some letter =
 
 -- ---- constants
 
-pub constant_some : (b : Bool) (value number : ℕ) → ◌≡◌ {A = Option ℕ} (Some number) (cond b (Some value) None) → (b ≡ true) × (number ≡ value)
-constant_some true value number e = (refl, some_is number value e)
-constant_some false value number e = absurd (not_none number e)
-
-pub constant_none : (b : Bool) (value : ℕ) → ◌≡◌ {A = Option ℕ} None (cond b (Some value) None) → b ≡ false
-constant_none true value e = absurd (not_none value (sym e))
-constant_none false value e = refl
-
 no_name_after : (after : List ℕ) → goes_on after ≡ false → begins is_name_byte after ≡ false
 no_name_after [] h = refl
 no_name_after (byte ∷ bytes) h = (or_parts (is_name_byte byte) (eqb byte 46) h).0
@@ -119,90 +118,111 @@ pub ends_here : (after : List ℕ) → begins is_name_byte after ≡ false → b
 ends_here [] h e = refl
 ends_here (byte ∷ bytes) h e = or_from (is_name_byte byte) (eqb byte 46) h e
 
+no_number : (front after longer more : List ℕ) → list_all is_name_byte front ≡ true → begins is_name_byte after ≡ false → front ++ after ≡ longer ++ more → length front < length longer
+    → (o : Option Number) → constant_of longer ≡ o → option_map class.Constant o ≡ None
+no_number front after longer more all stops e less None is = refl
+no_number front after longer more all stops e less (Some n) is = absurd (not_longer front after longer more all stops e less (constant_bytes longer n is))
+
 no_longer_number : (byte : ℕ) (bytes after longer more : List ℕ) → is_digit byte ≡ true → list_all is_name_byte (byte ∷ bytes) ≡ true → begins is_name_byte after ≡ false
     → (byte ∷ bytes) ++ after ≡ longer ++ more → length (byte ∷ bytes) < length longer → token_class longer ≡ None
 no_longer_number byte bytes after [] more digit all stops e less = empty_class
 no_longer_number byte bytes after (x ∷ xs) more digit all stops e less =
     digit_class x xs (subst (λ b. is_digit b ≡ true) (same_first byte x (bytes ++ after) (xs ++ more) e) digit)
-    (false_from_ne_true _ (λ constant. not_longer (byte ∷ bytes) after (x ∷ xs) more all stops e less (constant_all (x ∷ xs) constant)))
+    ∙ no_number (byte ∷ bytes) after (x ∷ xs) more all stops e less (constant_of (x ∷ xs)) refl
 
-number_token : (front after : List ℕ) → 0 < length front → is_digit (get_or front 0 0) ≡ true → is_constant front ≡ true → goes_on after ≡ false
-    → IsTokenBefore after front (class.Constant (decimal_value front))
-number_token [] after some digit constant ends = absurd (omega (arith, some))
-number_token (byte ∷ bytes) after some digit constant ends = record {
-  is_token = class_of_constant (byte ∷ bytes) (no_name byte bytes (digit_no_letter byte digit)) constant;
-  longest = λ longer more e less. no_longer_number byte bytes after longer more digit (constant_all (byte ∷ bytes) constant) (no_name_after after ends) e less;
+number_token : (front after : List ℕ) (value : Number) → 0 < length front → is_digit (get_or front 0 0) ≡ true → constant_of front ≡ Some value → goes_on after ≡ false
+    → IsTokenBefore after front (class.Constant value)
+number_token [] after value some digit constant ends = absurd (omega (arith, some))
+number_token (byte ∷ bytes) after value some digit constant ends = record {
+  is_token = digit_class byte bytes digit ∙ ap (λ o. option_map class.Constant o) constant;
+  longest = λ longer more e less. no_longer_number byte bytes after longer more digit (constant_bytes (byte ∷ bytes) value constant) (no_name_after after ends) e less;
   apart = λ is. ends;
 }
 
-pub number_front : (text : List ℕ) → 0 < length text → is_digit (get_or text 0 0) ≡ true → is_constant (take (prefix_len is_name_byte text) text) ≡ true
+pub number_front : (text : List ℕ) (value : Number) → 0 < length text → is_digit (get_or text 0 0) ≡ true → constant_of (take (prefix_len is_name_byte text) text) ≡ Some value
     → goes_on (drop (prefix_len is_name_byte text) text) ≡ false
-    → IsFront text (record { class = class.Constant (decimal_value (take (prefix_len is_name_byte text) text)); length = prefix_len is_name_byte text })
-number_front text some digit constant ends =
+    → IsFront text (record { class = class.Constant value; length = prefix_len is_name_byte text })
+number_front text value some digit constant ends =
     let n = prefix_len is_name_byte text in
     let moves = some_run text some (digit_in_name (get_or text 0 0) digit) in
     record {
       some = moves;
       within = prefix_len-le-length is_name_byte text;
-      token = number_token (take n text) (drop n text) (omega (arith, moves, run_length text)) (subst (λ b. is_digit b ≡ true) (sym (run_first text moves)) digit) constant ends;
+      token = number_token (take n text) (drop n text) value (omega (arith, moves, run_length text)) (subst (λ b. is_digit b ≡ true) (sym (run_first text moves)) digit) constant ends;
     }
 
 -- a token that begins with a digit is the whole run
 record IsNumber (front after : List ℕ) : Type 0 where
-  constant : is_constant front ≡ true
+  value : Number
+  constant : constant_of front ≡ Some value
   ends : goes_on after ≡ false
   run : prefix_len is_name_byte (front ++ after) ≡ length front
+
+constant_there : (o : Option Number) (c : TokenClass) → option_map class.Constant o ≡ Some c → (n : Number) × (o ≡ Some n)
+constant_there None c h = absurd cc
+constant_there (Some n) c h = (n, refl)
 
 only_number : (front after : List ℕ) (c : TokenClass) → is_digit (get_or (front ++ after) 0 0) ≡ true → IsTokenBefore after front c → IsNumber front after
 only_number [] after c digit is = absurd (not_none c (sym is.is_token ∙ empty_class))
 only_number (byte ∷ bytes) after c digit is =
-    let constant = true_from_ne_false (is_constant (byte ∷ bytes)) (λ no_one. not_none c (sym is.is_token ∙ digit_class byte bytes digit no_one)) in
-    let ends = is.apart constant in
-    record { constant = constant; ends = ends; run = run-is is_name_byte (byte ∷ bytes) after (constant_all (byte ∷ bytes) constant) (no_name_after after ends) }
+    let there = constant_there (constant_of (byte ∷ bytes)) c (sym (digit_class byte bytes digit) ∙ is.is_token) in
+    let ends = is.apart (ap is_some there.1) in
+    record { value = there.0; constant = there.1; ends = ends; run = run-is is_name_byte (byte ∷ bytes) after (constant_bytes (byte ∷ bytes) there.0 there.1) (no_name_after after ends) }
 
 number_parts : (text front after : List ℕ) (c : TokenClass) → is_digit (get_or text 0 0) ≡ true → text ≡ front ++ after → IsTokenBefore after front c
-    → (is_constant (take (prefix_len is_name_byte text) text) ≡ true) × (goes_on (drop (prefix_len is_name_byte text) text) ≡ false)
+    → (is_some (constant_of (take (prefix_len is_name_byte text) text)) ≡ true) × (goes_on (drop (prefix_len is_name_byte text) text) ≡ false)
 number_parts text front after c digit e is =
     let number = only_number front after c (subst (λ t. is_digit (get_or t 0 0) ≡ true) e digit) is in
     let n : length front ≡ prefix_len is_name_byte text = sym (ap (prefix_len is_name_byte) e ∙ number.run) in (
-      subst (λ f. is_constant f ≡ true) (sym (ap (take (prefix_len is_name_byte text)) e ∙ take_at front after (prefix_len is_name_byte text) n)) number.constant,
+      subst (λ f. is_some (constant_of f) ≡ true) (sym (ap (take (prefix_len is_name_byte text)) e ∙ take_at front after (prefix_len is_name_byte text) n)) (ap is_some number.constant),
       subst (λ f. goes_on f ≡ false) (sym (ap (drop (prefix_len is_name_byte text)) e ∙ drop_at front after (prefix_len is_name_byte text) n)) number.ends,
     )
 
-pub no_number_by_value : (text : List ℕ) → is_digit (get_or text 0 0) ≡ true → is_constant (take (prefix_len is_name_byte text) text) ≡ false → BeginsNoToken text
-no_number_by_value text digit no_constant_here front after c e is = both_ways _ no_constant_here (number_parts text front after c digit e is).0
+pub no_number_by_value : (text : List ℕ) → is_digit (get_or text 0 0) ≡ true → constant_of (take (prefix_len is_name_byte text) text) ≡ None → BeginsNoToken text
+no_number_by_value text digit no_constant_here front after c e is = no_some _ no_constant_here (number_parts text front after c digit e is).0
 
 pub no_number_by_end : (text : List ℕ) → is_digit (get_or text 0 0) ≡ true → goes_on (drop (prefix_len is_name_byte text) text) ≡ true → BeginsNoToken text
 no_number_by_end text digit more front after c e is = both_ways _ (number_parts text front after c digit e is).1 more
 
 -- ---- punctuators
 
+-- a byte that begins neither a name, a constant nor what stands in quotes
+pub record IsApart (byte : ℕ) : Type 0 where
+  pub letter : is_letter byte ≡ false
+  pub digit : is_digit byte ≡ false
+  pub quote : eqb byte 39 ≡ false
+  pub double_quote : eqb byte 34 ≡ false
+
+apart_class : (byte : ℕ) (bytes : List ℕ) → IsApart byte → token_class (byte ∷ bytes) ≡ option_map class.Punct (punctuator_of (byte ∷ bytes))
+apart_class byte bytes apart = other_class byte bytes apart.letter apart.digit apart.quote apart.double_quote
+
+
 empty_written : written_so punctuators [] ≡ None
 empty_written = refl
 
-no_longer_punctuator : (byte : ℕ) (bytes after longer more : List ℕ) → is_letter byte ≡ false → is_digit byte ≡ false → (byte ∷ bytes) ++ after ≡ longer ++ more
+no_longer_punctuator : (byte : ℕ) (bytes after longer more : List ℕ) → IsApart byte → (byte ∷ bytes) ++ after ≡ longer ++ more
     → punctuator_of longer ≡ None → token_class longer ≡ None
-no_longer_punctuator byte bytes after [] more letter digit e none = empty_class
-no_longer_punctuator byte bytes after (x ∷ xs) more letter digit e none =
+no_longer_punctuator byte bytes after [] more apart e none = empty_class
+no_longer_punctuator byte bytes after (x ∷ xs) more apart e none =
     let one = same_first byte x (bytes ++ after) (xs ++ more) e in
-    other_class x xs (subst (λ b. is_letter b ≡ false) one letter) (subst (λ b. is_digit b ≡ false) one digit) ∙ ap (λ o. option_map class.Punct o) none
+    apart_class x xs (subst IsApart one apart) ∙ ap (λ o. option_map class.Punct o) none
 
-punctuator_token : (front after : List ℕ) (p : Punctuator) → 0 < length front → is_letter (get_or front 0 0) ≡ false → is_digit (get_or front 0 0) ≡ false → punctuator_of front ≡ Some p
+punctuator_token : (front after : List ℕ) (p : Punctuator) → 0 < length front → IsApart (get_or front 0 0) → punctuator_of front ≡ Some p
     → ((longer more : List ℕ) → front ++ after ≡ longer ++ more → length front < length longer → punctuator_of longer ≡ None) → IsTokenBefore after front (class.Punct p)
-punctuator_token [] after p some letter digit written none = absurd (omega (arith, some))
-punctuator_token (byte ∷ bytes) after p some letter digit written none = record {
-  is_token = other_class byte bytes letter digit ∙ ap (λ o. option_map class.Punct o) written;
-  longest = λ longer more e less. no_longer_punctuator byte bytes after longer more letter digit e (none longer more e less);
-  apart = λ is. absurd (both_ways _ (no_constant byte bytes digit) is);
+punctuator_token [] after p some apart written none = absurd (omega (arith, some))
+punctuator_token (byte ∷ bytes) after p some apart written none = record {
+  is_token = apart_class byte bytes apart ∙ ap (λ o. option_map class.Punct o) written;
+  longest = λ longer more e less. no_longer_punctuator byte bytes after longer more apart e (none longer more e less);
+  apart = λ is. absurd (no_some _ (no_constant byte bytes apart.digit) is);
 }
 
 written_some : (text : List ℕ) (n : ℕ) (p : Punctuator) → written_so punctuators (take n text) ≡ Some p → 0 < n
 written_some text zero p h = absurd (not_none p (sym h ∙ empty_written))
 written_some text (suc n) p h = omega arith
 
-pub punctuator_front : (text : List ℕ) (front : Front) → is_letter (get_or text 0 0) ≡ false → is_digit (get_or text 0 0) ≡ false → first_front punctuators text ≡ Some front → IsFront text front
+pub punctuator_front : (text : List ℕ) (front : Front) → IsApart (get_or text 0 0) → first_front punctuators text ≡ Some front → IsFront text front
 unfolding punctuator_of
-punctuator_front text front letter digit e =
+punctuator_front text front apart e =
     let first = first_punctuator text front e in
     let n = front.length in
     let moves = written_some text n first.punctuator first.written in
@@ -214,31 +234,28 @@ punctuator_front text front letter digit e =
       within = first.within;
       token = subst (λ c. IsTokenBefore (drop n text) (take n text) c) (sym first.class)
           (punctuator_token (take n text) (drop n text) first.punctuator (omega (arith, moves, count))
-          (subst (λ b. is_letter b ≡ false) (sym head) letter) (subst (λ b. is_digit b ≡ false) (sym head) digit) first.written
+          (subst IsApart (sym head) apart) first.written
           (λ longer more same less. first.longest longer (subst (λ t. begins_with longer t ≡ true) (sym same ∙ whole) (begins-append longer more)) (omega (arith, less, count))));
     }
 
-no_front : (text front after : List ℕ) (c : TokenClass) → is_letter (get_or (front ++ after) 0 0) ≡ false → is_digit (get_or (front ++ after) 0 0) ≡ false → punctuator_of front ≡ None
+no_front : (text front after : List ℕ) (c : TokenClass) → IsApart (get_or (front ++ after) 0 0) → punctuator_of front ≡ None
     → IsTokenBefore after front c → ⊥
-no_front text [] after c letter digit none is = not_none c (sym is.is_token ∙ empty_class)
-no_front text (byte ∷ bytes) after c letter digit none is =
-    not_none c (sym is.is_token ∙ other_class byte bytes letter digit ∙ ap (λ o. option_map class.Punct o) none)
+no_front text [] after c apart none is = not_none c (sym is.is_token ∙ empty_class)
+no_front text (byte ∷ bytes) after c apart none is =
+    not_none c (sym is.is_token ∙ apart_class byte bytes apart ∙ ap (λ o. option_map class.Punct o) none)
 
-pub no_punctuator_front : (text : List ℕ) → is_letter (get_or text 0 0) ≡ false → is_digit (get_or text 0 0) ≡ false → first_front punctuators text ≡ None → BeginsNoToken text
-no_punctuator_front text letter digit none front after c e is =
-    no_front text front after c (subst (λ t. is_letter (get_or t 0 0) ≡ false) e letter) (subst (λ t. is_digit (get_or t 0 0) ≡ false) e digit)
+pub no_punctuator_front : (text : List ℕ) → IsApart (get_or text 0 0) → first_front punctuators text ≡ None → BeginsNoToken text
+no_punctuator_front text apart none front after c e is =
+    no_front text front after c (subst (λ t. IsApart (get_or t 0 0)) e apart)
     (no_first_punctuator text none front (subst (λ t. begins_with front t ≡ true) (sym e) (begins-append front after))) is
 
 -- ---- what the functions find
 
-pub number_found : (text : List ℕ) (n : ℕ) (more : Bool) (value : ℕ) → 0 < length text → is_digit (get_or text 0 0) ≡ true → n ≡ prefix_len is_name_byte text
-    → more ≡ goes_on (take (length text - n) (drop n text)) → more ≡ false → ◌≡◌ {A = Option ℕ} (Some value) (cond (is_constant (take n text)) (Some (decimal_value (take n text))) None)
-    → IsFront text (record { class = class.Constant value; length = n })
+pub number_found : (text : List ℕ) (n : ℕ) (more : Bool) (value : Number) → 0 < length text → is_digit (get_or text 0 0) ≡ true → n ≡ prefix_len is_name_byte text
+    → more ≡ goes_on (take (length text - n) (drop n text)) → more ≡ false → constant_of (take n text) ≡ Some value → IsFront text (record { class = class.Constant value; length = n })
 number_found text n more value some digit e is ends found =
-    let parts = constant_some (is_constant (take n text)) (decimal_value (take n text)) value found in
-    let same : value ≡ decimal_value (take (prefix_len is_name_byte text) text) = parts.1 ∙ ap (λ k. decimal_value (take k text)) e in
-    same_front text (class.Constant value) (class.Constant (decimal_value (take (prefix_len is_name_byte text) text))) n (prefix_len is_name_byte text) (ap class.Constant same) e
-    (number_front text some digit (subst (λ k. is_constant (take k text) ≡ true) e parts.0)
+    same_front text (class.Constant value) (class.Constant value) n (prefix_len is_name_byte text) refl e
+    (number_front text value some digit (subst (λ k. constant_of (take k text) ≡ Some value) e found)
     (subst (λ k. goes_on (drop k text) ≡ false) e (sym (ap goes_on (take_rest text n)) ∙ sym is ∙ ends)))
 
 pub no_number_before : (text : List ℕ) (n : ℕ) (more : Bool) → is_digit (get_or text 0 0) ≡ true → n ≡ prefix_len is_name_byte text
@@ -246,17 +263,19 @@ pub no_number_before : (text : List ℕ) (n : ℕ) (more : Bool) → is_digit (g
 no_number_before text n more digit e is goes =
     no_number_by_end text digit (subst (λ k. goes_on (drop k text) ≡ true) e (sym (ap goes_on (take_rest text n)) ∙ sym is ∙ goes))
 
-pub no_number_of : (text : List ℕ) (n : ℕ) → is_digit (get_or text 0 0) ≡ true → n ≡ prefix_len is_name_byte text
-    → ◌≡◌ {A = Option ℕ} None (cond (is_constant (take n text)) (Some (decimal_value (take n text))) None) → BeginsNoToken text
-no_number_of text n digit e none =
-    no_number_by_value text digit (subst (λ k. is_constant (take k text) ≡ false) e (constant_none (is_constant (take n text)) (decimal_value (take n text)) none))
+pub no_number_of : (text : List ℕ) (n : ℕ) → is_digit (get_or text 0 0) ≡ true → n ≡ prefix_len is_name_byte text → constant_of (take n text) ≡ None → BeginsNoToken text
+no_number_of text n digit e none = no_number_by_value text digit (subst (λ k. constant_of (take k text) ≡ None) e none)
 
-pub punctuator_found : (text : List ℕ) (found : Option Front) → is_letter (get_or text 0 0) ≡ false → is_digit (get_or text 0 0) ≡ false
-    → found ≡ first_front (map (λ entry. (entry.0.now, entry.1)) PUNCTUATORS) text → IfSome found (IsFront text)
-punctuator_found text (Some front) letter digit e = punctuator_front text front letter digit (sym (e ∙ ap (λ table. first_front table text) punctuators_are))
-punctuator_found text None letter digit e = tt
+not_this : (byte other : ℕ) → (byte ≡ other → ⊥) → eqb byte other ≡ false
+not_this byte other h = false_from_ne_true _ (λ same. h (eqb-true byte other same))
 
-pub no_punctuator_found : (text : List ℕ) (found : Option Front) → is_letter (get_or text 0 0) ≡ false → is_digit (get_or text 0 0) ≡ false
-    → found ≡ first_front (map (λ entry. (entry.0.now, entry.1)) PUNCTUATORS) text → IfNone found (BeginsNoToken text)
-no_punctuator_found text (Some front) letter digit e = tt
-no_punctuator_found text None letter digit e = no_punctuator_front text letter digit (sym (e ∙ ap (λ table. first_front table text) punctuators_are))
+pub is_apart : (byte : ℕ) → is_letter byte ≡ false → is_digit byte ≡ false → (byte ≡ 39 → ⊥) → (byte ≡ 34 → ⊥) → IsApart byte
+is_apart byte letter digit quote double_quote = record { letter = letter; digit = digit; quote = not_this byte 39 quote; double_quote = not_this byte 34 double_quote }
+
+pub punctuator_found : (text : List ℕ) (found : Option Front) → IsApart (get_or text 0 0) → found ≡ first_front (map (λ entry. (entry.0.now, entry.1)) PUNCTUATORS) text → IfSome found (IsFront text)
+punctuator_found text (Some front) apart e = punctuator_front text front apart (sym (e ∙ ap (λ table. first_front table text) punctuators_are))
+punctuator_found text None apart e = tt
+
+pub no_punctuator_found : (text : List ℕ) (found : Option Front) → IsApart (get_or text 0 0) → found ≡ first_front (map (λ entry. (entry.0.now, entry.1)) PUNCTUATORS) text → IfNone found (BeginsNoToken text)
+no_punctuator_found text (Some front) apart e = tt
+no_punctuator_found text None apart e = no_punctuator_front text apart (sym (e ∙ ap (λ table. first_front table text) punctuators_are))

@@ -1,6 +1,9 @@
 pub mod Runs
 pub mod TableLemmas
+pub mod DigitLemmas
+pub mod ConstantLemmas
+pub mod QuoteLemmas
 pub mod ClassLemmas
 pub mod FrontLemmas
-pub mod DigitLemmas
+pub mod QuotedFronts
 pub mod TokenLaws

@@ -5,11 +5,11 @@ use Rattle.std.proofs.lemmas.Bool.{and_parts, and_left, not-true, eqb-true, both
 use Rattle.std.proofs.lemmas.Slice.Eq.{bytes_eq-Decides}
 use Rattle.std.proofs.lemmas.List.{length-take, length-take-le, take_at}
 use Rattle.c_tokens.specs.declared.front.Front.{Front}
-use Rattle.c_tokens.specs.declared.tables.TheConstants.{KEYWORDS, PUNCTUATORS}
+use Rattle.c_tokens.specs.declared.tables.TheConstants.{KEYWORDS, PUNCTUATORS, SUFFIXES, ESCAPES}
 use Rattle.c_tokens.specs.declared.tokens.Punctuator.{Punctuator}
 use Rattle.c_tokens.specs.declared.tokens.TokenClass.TheVariants.{Punct}
 use Rattle.c_tokens.specs.Bytes.{is_name_byte, is_space, is_in_line}
-use Rattle.c_tokens.specs.Tables.{keywords, punctuators, written_so, punctuator_of}
+use Rattle.c_tokens.specs.Tables.{keywords, punctuators, suffixes, escapes, written_so, punctuator_of}
 use Rattle.c_tokens.specs.Fronts.{begins_with, first_front}
 
 -- ---- the tables of the code are those of the definitions
@@ -20,10 +20,19 @@ keywords_are = refl
 pub punctuators_are : map (λ entry. (entry.0.now, entry.1)) PUNCTUATORS ≡ punctuators
 punctuators_are = refl
 
--- ---- no punctuator begins with a name byte or white space
+pub suffixes_are : map (λ entry. (entry.0.now, entry.1)) SUFFIXES ≡ suffixes
+suffixes_are = refl
+
+pub escapes_are : map (λ entry. (entry.0.now, entry.1)) ESCAPES ≡ escapes
+escapes_are = refl
+
+-- ---- no punctuator begins with a name byte, white space or a quote
+
+abbrev pub is_quote : ℕ → Bool
+is_quote byte = eqb byte 39 || eqb byte 34
 
 abbrev pub is_other : ℕ → Bool
-is_other byte = is_name_byte byte || is_space byte
+is_other byte = (is_name_byte byte || is_space byte) || is_quote byte
 
 abbrev begins_apart : List ℕ → Bool
 begins_apart [] = true
@@ -162,16 +171,16 @@ no_first_punctuator text e longer begins = none_is punctuators text e longer beg
 
 -- ---- no line ends within a punctuator
 
-abbrev texts_pass : (List ℕ → Bool) → List (List ℕ × Punctuator) → Bool
+abbrev pub texts_pass : {X : Type 0} → (List ℕ → Bool) → List (List ℕ × X) → Bool
 texts_pass test [] = true
 texts_pass test (entry ∷ entries) = test entry.0 && texts_pass test entries
 
-passes_step : (test : List ℕ → Bool) (entry : List ℕ × Punctuator) (entries : List (List ℕ × Punctuator)) (text : List ℕ) (p : Punctuator) → test entry.0 ≡ true
+passes_step : {X : Type 0} (test : List ℕ → Bool) (entry : List ℕ × X) (entries : List (List ℕ × X)) (text : List ℕ) (p : X) → test entry.0 ≡ true
     → (written_so entries text ≡ Some p → test text ≡ true) → (b : Bool) → bytes_eq entry.0 text ≡ b → cond b (Some entry.1) (written_so entries text) ≡ Some p → test text ≡ true
 passes_step test entry entries text p here later true same e = subst (λ t. test t ≡ true) ((bytes_eq-Decides entry.0 text).0 same) here
 passes_step test entry entries text p here later false other e = later e
 
-text_passes : (test : List ℕ → Bool) (entries : List (List ℕ × Punctuator)) → texts_pass test entries ≡ true → (text : List ℕ) (p : Punctuator) → written_so entries text ≡ Some p → test text ≡ true
+pub text_passes : {X : Type 0} (test : List ℕ → Bool) (entries : List (List ℕ × X)) → texts_pass test entries ≡ true → (text : List ℕ) (p : X) → written_so entries text ≡ Some p → test text ≡ true
 text_passes test [] pass text p e = absurd (cc)
 text_passes test (entry ∷ entries) pass text p e =
     let parts = and_parts (test entry.0) (texts_pass test entries) pass in

@@ -18,6 +18,10 @@ is_digit byte = between 48 57 byte
 abbrev pub is_name_byte : ℕ → Bool
 is_name_byte byte = is_letter byte || is_digit byte
 
+-- what may stand outside comments: white space and the printed characters of ASCII
+abbrev pub is_text_byte : ℕ → Bool
+is_text_byte byte = between 9 13 byte || between 32 126 byte
+
 abbrev pub is_line_end : ℕ → Bool
 is_line_end byte = byte == 10
 

@@ -1,4 +1,7 @@
 pub mod Bytes
 pub mod Tables
+pub mod Digits
+pub mod Constants
+pub mod Quotes
 pub mod Classes
 pub mod Fronts

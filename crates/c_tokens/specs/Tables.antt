@@ -1,6 +1,8 @@
--- How keywords (C 6.4.1) and punctuators (C 6.4.6) are written.
+-- How keywords (C 6.4.1), punctuators (C 6.4.6), suffixes (C 6.4.4.1) and escapes (C 6.4.4.4) are written.
 use Rattle.std.specs.Prelude.{ℕ, List, [], ◌∷◌, Option, Some, None, if◌then◌else◌, codes}
 use Rattle.std.specs.Str.{bytes_eq}
+use Rattle.c_tokens.specs.declared.constants.Suffix.{Suffix}
+use Rattle.c_tokens.specs.declared.constants.Suffix.TheVariants as s
 use Rattle.c_tokens.specs.declared.tokens.Keyword.{Keyword}
 use Rattle.c_tokens.specs.declared.tokens.Keyword.TheVariants as k
 use Rattle.c_tokens.specs.declared.tokens.Punctuator.{Punctuator}
@@ -34,6 +36,21 @@ punctuators =
     (codes "|", p.Bar) ∷ (codes "?", p.Question) ∷ (codes ":", p.Colon) ∷ (codes ";", p.Semicolon) ∷ (codes "=", p.Equal) ∷
     (codes ",", p.Comma) ∷ []
 
+-- `u` or `U`, and `l`, `L`, `ll` or `LL`, each at most once, in either order
+abbrev pub suffixes : List (List ℕ × Suffix)
+suffixes =
+    (codes "", s.Plain) ∷ (codes "u", s.Unsigned) ∷ (codes "U", s.Unsigned) ∷ (codes "l", s.Long) ∷ (codes "L", s.Long) ∷ (codes "ll", s.Long) ∷
+    (codes "LL", s.Long) ∷ (codes "ul", s.UnsignedLong) ∷ (codes "uL", s.UnsignedLong) ∷ (codes "ull", s.UnsignedLong) ∷ (codes "uLL", s.UnsignedLong) ∷
+    (codes "Ul", s.UnsignedLong) ∷ (codes "UL", s.UnsignedLong) ∷ (codes "Ull", s.UnsignedLong) ∷ (codes "ULL", s.UnsignedLong) ∷
+    (codes "lu", s.UnsignedLong) ∷ (codes "lU", s.UnsignedLong) ∷ (codes "Lu", s.UnsignedLong) ∷ (codes "LU", s.UnsignedLong) ∷
+    (codes "llu", s.UnsignedLong) ∷ (codes "llU", s.UnsignedLong) ∷ (codes "LLu", s.UnsignedLong) ∷ (codes "LLU", s.UnsignedLong) ∷ []
+
+-- the bytes that a backslash and one byte more stand for
+abbrev pub escapes : List (List ℕ × ℕ)
+escapes =
+    (codes "'", 39) ∷ (codes "\"", 34) ∷ (codes "?", 63) ∷ (codes "\\", 92) ∷ (codes "a", 7) ∷ (codes "b", 8) ∷ (codes "f", 12) ∷ (codes "n", 10) ∷
+    (codes "r", 13) ∷ (codes "t", 9) ∷ (codes "v", 11) ∷ []
+
 -- what is written so in the table
 abbrev pub written_so : {X : Type 0} → List (List ℕ × X) → List ℕ → Option X
 written_so [] text = None
@@ -44,3 +61,9 @@ keyword_of = written_so keywords
 
 unfoldable pub punctuator_of : List ℕ → Option Punctuator
 punctuator_of = written_so punctuators
+
+unfoldable pub suffix_of : List ℕ → Option Suffix
+suffix_of = written_so suffixes
+
+unfoldable pub escape_of : List ℕ → Option ℕ
+escape_of = written_so escapes

@@ -26,3 +26,10 @@ pub fn is_name_byte(byte: u8) -> bool
 {
     is_letter(byte) || is_digit(byte)
 }
+
+/// What may stand outside comments: white space and the printed characters of ASCII.
+pub fn is_text_byte(byte: u8) -> bool
+    ensures { result ≡ bytes.is_text_byte byte }
+{
+    (b'\t' <= byte && byte <= b'\r') || (b' ' <= byte && byte <= b'~')
+}

@@ -1,15 +1,16 @@
 //! The token at the front of a text.
 
-ghost use Rattle.std.specs.Prelude.{◌≡◌, ◌<◌, ◌≤◌, true, false, length, slice_index, map, IfOk, IfErr, IfSome, IfNone};
+ghost use Rattle.std.specs.Prelude.{◌≡◌, ◌≢◌, ◌<◌, ◌≤◌, true, false, length, slice_index, map, IfOk, IfErr, IfSome, IfNone};
 ghost use Rattle.std.specs.List.{prefix_len};
 ghost use Rattle.c_tokens.specs.Bytes as bytes;
-ghost use Rattle.c_tokens.specs.Tables.{keyword_of, written_so};
+ghost use Rattle.c_tokens.specs.Tables.{keyword_of};
 ghost use Rattle.c_tokens.specs.Classes.{BeginsNoToken, goes_on, name_class};
 ghost use Rattle.c_tokens.specs.Fronts.{IsFront, first_front, why_none};
 
 use crate::bytes::{is_digit, is_letter, is_name_byte};
 use crate::constants::constant;
-use crate::tables::{KEYWORDS, PUNCTUATORS};
+use crate::quotes::{char_number, one_character, text_length, to_quote};
+use crate::tables::{KEYWORDS, PUNCTUATORS, written_so};
 use crate::tokens::{Keyword, Punctuator, TokenClass};
 
 /// A token at the front, which has this many bytes.
@@ -24,8 +25,10 @@ pub struct Front {
 pub enum NoToken {
     /// The byte that stands this many bytes on can't stand there.
     BadByte(usize),
-    /// It begins like a constant, and is none.
+    /// It begins like an integer constant, and is none.
     BadNumber,
+    /// It begins like a character constant, and is none.
+    BadCharacter,
 }
 
 /// The token at the front, or why there is none.
@@ -41,6 +44,12 @@ pub fn first_token(text: &[u8]) -> Result<Front, NoToken>
     }
     if is_digit(first) {
         return number(text).ok_or(NoToken::BadNumber);
+    }
+    if first == b'\'' {
+        return character(text).ok_or(NoToken::BadCharacter);
+    }
+    if first == b'"' {
+        return literal(text);
     }
     punctuator(text).ok_or(NoToken::BadByte(0))
 }
@@ -80,23 +89,10 @@ fn name_class(keyword: Option<Keyword>) -> TokenClass
 fn keyword(text: &[u8]) -> Option<Keyword>
     ensures { result ≡ keyword_of text.now }
 {
-    keyword_in(&KEYWORDS, text)
+    written_so(&KEYWORDS, text)
 }
 
-/// The keyword that is written so in the table.
-fn keyword_in(mut table: &[(&[u8], Keyword)], text: &[u8]) -> Option<Keyword>
-    ensures { result ≡ written_so (map (λ entry. (entry.0.now, entry.1)) table.entry.now) text.now }
-{
-    while let [entry, rest @ ..] = table {
-        if entry.0 == text {
-            return Some(entry.1);
-        }
-        table = rest;
-    }
-    None
-}
-
-/// An integer constant, after which neither a name byte nor a point stands.
+/// An integer constant, behind which neither a name byte nor a point stands.
 fn number(text: &[u8]) -> Option<Front>
     requires some { 0 < length text.now }
     requires digit { bytes.is_digit (slice_index text.now 0) ≡ true }
@@ -126,11 +122,53 @@ fn goes_on(rest: &[u8]) -> bool
     }
 }
 
+/// A character constant.
+fn character(text: &[u8]) -> Option<Front>
+    requires some { 0 < length text.now }
+    requires quote { slice_index text.now 0 ≡ 39 }
+    ensures front { IfSome result (IsFront text.now) }
+    ensures none { IfNone result (BeginsNoToken text.now) }
+{
+    let Some(length) = to_quote(b'\'', &text[1..]) else {
+        return None;
+    };
+    match one_character(&text[1..length]) {
+        Some(value) => Some(Front {
+            class: TokenClass::Character(char_number(value)),
+            length: length + 1,
+        }),
+        None => None,
+    }
+}
+
+/// A string literal, or the byte that is bad.
+fn literal(text: &[u8]) -> Result<Front, NoToken>
+    requires some { 0 < length text.now }
+    requires quote { slice_index text.now 0 ≡ 34 }
+    ensures front { IfOk result (IsFront text.now) }
+    ensures none { IfErr result (λ _. BeginsNoToken text.now) }
+    ensures why { IfErr result (λ why. why ≡ why_none text.now) }
+{
+    let Some(length) = to_quote(b'"', &text[1..]) else {
+        return Err(NoToken::BadByte(0));
+    };
+    let good = text_length(&text[1..length + 1]);
+    if good < length {
+        return Err(NoToken::BadByte(good + 1));
+    }
+    Ok(Front {
+        class: TokenClass::Literal,
+        length: length + 1,
+    })
+}
+
 /// The longest punctuator.
 fn punctuator(text: &[u8]) -> Option<Front>
     requires some { 0 < length text.now }
     requires no_letter { bytes.is_letter (slice_index text.now 0) ≡ false }
     requires no_digit { bytes.is_digit (slice_index text.now 0) ≡ false }
+    requires no_quote { slice_index text.now 0 ≢ 39 }
+    requires no_double_quote { slice_index text.now 0 ≢ 34 }
     ensures front { IfSome result (IsFront text.now) }
     ensures none { IfNone result (BeginsNoToken text.now) }
 {

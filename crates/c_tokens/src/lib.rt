@@ -3,11 +3,13 @@
 
 mod bytes;
 mod constants;
+mod digits;
 mod front;
+mod quotes;
 mod tables;
 mod tokens;
 
-pub use bytes::{is_digit, is_letter, is_name_byte, is_space};
+pub use bytes::{is_digit, is_letter, is_name_byte, is_space, is_text_byte};
 pub use front::{Front, NoToken, first_token};
 pub use tokens::{Keyword, Punctuator, TokenClass};
 

@@ -1,5 +1,9 @@
-//! How keywords and punctuators are written.
+//! How keywords, punctuators, suffixes and escapes are written.
 
+ghost use Rattle.std.specs.Prelude.{◌≡◌, map};
+ghost use Rattle.c_tokens.specs.Tables.{written_so};
+
+use crate::constants::Suffix;
 use crate::tokens::{Keyword, Punctuator};
 
 pub const KEYWORDS: [(&[u8], Keyword); 44] = [
@@ -98,3 +102,58 @@ pub const PUNCTUATORS: [(&[u8], Punctuator); 46] = [
     (b"=", Punctuator::Equal),
     (b",", Punctuator::Comma),
 ];
+
+/// The suffixes of integer constants.
+pub const SUFFIXES: [(&[u8], Suffix); 23] = [
+    (b"", Suffix::Plain),
+    (b"u", Suffix::Unsigned),
+    (b"U", Suffix::Unsigned),
+    (b"l", Suffix::Long),
+    (b"L", Suffix::Long),
+    (b"ll", Suffix::Long),
+    (b"LL", Suffix::Long),
+    (b"ul", Suffix::UnsignedLong),
+    (b"uL", Suffix::UnsignedLong),
+    (b"ull", Suffix::UnsignedLong),
+    (b"uLL", Suffix::UnsignedLong),
+    (b"Ul", Suffix::UnsignedLong),
+    (b"UL", Suffix::UnsignedLong),
+    (b"Ull", Suffix::UnsignedLong),
+    (b"ULL", Suffix::UnsignedLong),
+    (b"lu", Suffix::UnsignedLong),
+    (b"lU", Suffix::UnsignedLong),
+    (b"Lu", Suffix::UnsignedLong),
+    (b"LU", Suffix::UnsignedLong),
+    (b"llu", Suffix::UnsignedLong),
+    (b"llU", Suffix::UnsignedLong),
+    (b"LLu", Suffix::UnsignedLong),
+    (b"LLU", Suffix::UnsignedLong),
+];
+
+/// What may stand behind a backslash, and the byte that it stands for.
+pub const ESCAPES: [(&[u8], u8); 11] = [
+    (b"'", b'\''),
+    (b"\"", b'"'),
+    (b"?", b'?'),
+    (b"\\", b'\\'),
+    (b"a", 7),
+    (b"b", 8),
+    (b"f", 12),
+    (b"n", 10),
+    (b"r", 13),
+    (b"t", 9),
+    (b"v", 11),
+];
+
+/// What is written so in the table.
+pub fn written_so<T: Copy>(mut table: &[(&[u8], T)], text: &[u8]) -> Option<T>
+    ensures { result ≡ written_so (map (λ entry. (entry.0.now, entry.1)) table.entry.now) text.now }
+{
+    while let [entry, rest @ ..] = table {
+        if entry.0 == text {
+            return Some(entry.1);
+        }
+        table = rest;
+    }
+    None
+}

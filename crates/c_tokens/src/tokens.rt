@@ -1,5 +1,7 @@
 //! Kinds of tokens.
 
+use rvt_num::Num;
+
 /// The keywords of C11 (C 6.4.1).
 #[derive(Clone, Copy, Debug, PartialEq, Eq)]
 pub enum Keyword {
@@ -152,7 +154,11 @@ pub enum TokenClass {
     /// A name that is no keyword.
     Word,
     Keyword(Keyword),
-    /// An integer constant of the type `int`, with its value.
-    Constant(u32),
+    /// An integer constant, with its number.
+    Constant(Num),
+    /// A character constant, with its number.
+    Character(Num),
+    /// A string literal.
+    Literal,
     Punct(Punctuator),
 }

@@ -1,9 +1,9 @@
-use Rattle.c_lexer.proofs.ReadingLemmas.{Stands}
 use Rattle.std.proofs.Common.{◌-◌, length}
+use Rattle.c_lexer.proofs.ReadingLemmas.{Stands}
 use Rattle.c_lexer.proofs.lexer.lex.Given as goal
 
-abbrev pub invariant-tokens : goal.invariant-tokens
-invariant-tokens l = Stands l.bytes l.start l.place l.tokens.items
+abbrev pub invariant-items : goal.invariant-items
+invariant-items l = Stands l.bytes l.at l.spot l.defines l.tokens.items
 
-abbrev pub decreases-tokens : goal.decreases-tokens
-decreases-tokens l = length l.bytes - l.start
+abbrev pub decreases-items : goal.decreases-items
+decreases-items l = length l.bytes - l.at

@@ -1,3 +1,4 @@
+use Rattle.std.proofs.Common.{sym, ◌∙◌}
 use Rattle.c_tokens.proofs.FrontLemmas.{number_found, no_number_before, no_number_of}
 use Rattle.c_tokens.proofs.front.number.Goals as goal
 
@@ -8,7 +9,7 @@ returns-then-goes_on-clause-none c =
 pub returns-in-Some-clause-front : goal.returns-in-Some-clause-front
 returns-in-Some-clause-front c =
     number_found c.args.text.now c.name_length-length.result c.goes_on.result c.in-Some.value c.requires.some c.requires.digit c.name_length-length.ensures.count c.goes_on.ensures
-    c.if-goes_on.false c.in-Some.ensures
+    c.if-goes_on.false (sym c.constant.ensures ∙ c.in-Some.is)
 
 pub returns-in-None-clause-none : goal.returns-in-None-clause-none
-returns-in-None-clause-none c = no_number_of c.args.text.now c.name_length-length.result c.requires.digit c.name_length-length.ensures.count c.in-None.ensures
+returns-in-None-clause-none c = no_number_of c.args.text.now c.name_length-length.result c.requires.digit c.name_length-length.ensures.count (sym c.constant.ensures ∙ c.in-None.is)
