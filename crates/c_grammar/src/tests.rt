@@ -1,19 +1,14 @@
 use crate::{Cause, Fault, steps};
-use c_lexer::{Place, lex};
+use c_lexer::{Place, Tokens, lex};
 use std::alloc::Global;
 use std::test::Fail;
 
-// Whether the text is a file, or is refused in line 1. The end is at line 1, column 99.
+// Whether the text, which has one line, is a file, or is refused at a column.
 fn is_said(alloc: Global, text: &[u8], refusal: Option<(usize, Cause, &[u8])>) -> bool {
-    let tokens = match lex(alloc, text) {
-        Ok(tokens) => tokens,
-        Err(_) => return false,
+    let Ok(Tokens { list, end }) = lex(alloc, text) else {
+        return false;
     };
-    let end = Place {
-        line: 1,
-        column: 99,
-    };
-    match steps(alloc, text, &tokens, end) {
+    match steps(alloc, text, &list, end) {
         Ok(_) => refusal.is_none(),
         Err(Fault::Memory) => false,
         Err(Fault::Refused(place, cause, word)) => match refusal {
@@ -92,6 +87,6 @@ fn refusals(rt: HostRuntime) -> Result<(), Fail> {
             b"\"x\""
         )
     );
-    assert!(rt; is_refused(alloc, b"int f(", 99, Cause::UnexpectedEnd, b""));
+    assert!(rt; is_refused(alloc, b"int f(", 7, Cause::UnexpectedEnd, b""));
     Ok(())
 }
