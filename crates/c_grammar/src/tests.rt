@@ -82,7 +82,7 @@ fn refusals(rt: HostRuntime) -> Result<(), Fail> {
         is_refused(
             alloc,
             b"int f(void) { return \"x\"; }",
-            23,
+            22,
             Cause::NotInProfile,
             b"\"x\""
         )
