@@ -61,6 +61,7 @@ numbered bytes tokens = λ i j a b x y ea eb ex ey wa wb. cases i j a b x y ea e
     cases : (i j : ℕ) (a b : Token) (x y : Terminal Class) → slice_get tokens i ≡ Some a → slice_get tokens j ≡ Some b → is_word a.class ≡ true → is_word b.class ≡ true →
         x.name ≡ position_or_len (bytes_eq (text_of bytes a)) (names_after [] bytes tokens) → y.name ≡ position_or_len (bytes_eq (text_of bytes b)) (names_after [] bytes tokens) →
         (x.name ≡ y.name → text_of bytes a ≡ text_of bytes b) × (text_of bytes a ≡ text_of bytes b → x.name ≡ y.name)
-    cases i j a b x y ea eb wa wb ex ey =
-        (λ e. same_text (text_of bytes a) (text_of bytes b) (names_after [] bytes tokens) (among_at [] bytes tokens i a ea wa) (among_at [] bytes tokens j b eb wb) (sym ex ∙ e ∙ ey),
-         λ e. ex ∙ ap (λ (text : List ℕ). position_or_len (bytes_eq text) (names_after [] bytes tokens)) e ∙ sym ey)
+    cases i j a b x y ea eb wa wb ex ey = (
+      λ e. same_text (text_of bytes a) (text_of bytes b) (names_after [] bytes tokens) (among_at [] bytes tokens i a ea wa) (among_at [] bytes tokens j b eb wb) (sym ex ∙ e ∙ ey),
+      λ e. ex ∙ ap (λ (text : List ℕ). position_or_len (bytes_eq text) (names_after [] bytes tokens)) e ∙ sym ey,
+    )

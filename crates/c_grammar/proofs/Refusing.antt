@@ -2,12 +2,9 @@
 use Rattle.std.proofs.Common.{◌≡◌, ℕ, zero, suc, ◌+◌, ◌<◌, Bool, true, false, Some, List, [], ◌∷◌, ◌++◌, length, refl, sym, ◌∙◌, ap, subst, arith}
 use Rattle.std.specs.Prelude.{if◌then◌else◌, All, slice_get}
 use Rattle.std.proofs.lemmas.List.{length-append}
-use Rattle.c_tokens.specs.declared.tokens.TokenClass.{TokenClass}
 use Rattle.c_lexer.specs.declared.tokens.Place.{Place}
 use Rattle.c_lexer.specs.declared.tokens.Token.{Token}
-use Rattle.c_parser.specs.declared.symbol.Token.{Token as Terminal}
 use Rattle.c_parser.specs.File.{IsUnexpected, IsTooDeep, IsUnexpectedEnd}
-use Rattle.c_grammar.specs.declared.grammar.Class.{Class}
 use Rattle.c_grammar.specs.declared.fault.Cause.{Cause}
 use Rattle.c_grammar.specs.declared.fault.Cause.TheVariants as cause
 use Rattle.c_grammar.specs.declared.fault.Fault.{Fault}
@@ -15,7 +12,7 @@ use Rattle.c_grammar.specs.declared.fault.Fault.TheVariants as fault
 use Rattle.c_grammar.specs.Classes.{is_left_out}
 use Rattle.c_grammar.specs.Grammar.{rules}
 use Rattle.c_grammar.specs.Terminals.{names_after, terminals_by, terminals_of}
-use Rattle.c_grammar.specs.Refusals.{Says, IsOf, IsUnexpectedToken, IsRefusedFor, IsRefusal, unexpected_cause}
+use Rattle.c_grammar.specs.Refusals.{Says, IsOf, IsRefusedFor, IsRefusal, unexpected_cause}
 
 -- what all items of a list have, each has
 pub all_at : {X : Type 0} (P : X → Type 0) (items : List X) (at : ℕ) (x : X) → All P items → slice_get items at ≡ Some x → P x

@@ -11,15 +11,7 @@ use c_tokens::{Keyword, Punctuator, TokenClass};
 
 /// The names of types that are built in.
 const BUILT_IN_TYPES: [&str; 10] = [
-    "size_t",
-    "bool",
-    "int8_t",
-    "int16_t",
-    "int32_t",
-    "int64_t",
-    "uint8_t",
-    "uint16_t",
-    "uint32_t",
+    "size_t", "bool", "int8_t", "int16_t", "int32_t", "int64_t", "uint8_t", "uint16_t", "uint32_t",
     "uint64_t",
 ];
 

@@ -1,19 +1,14 @@
 use crate::{Cause, Fault, steps};
-use c_lexer::{Place, lex};
+use c_lexer::{Place, Tokens, lex};
 use std::alloc::Global;
 use std::test::Fail;
 
-// Whether the text is a file, or is refused in line 1. The end is at line 1, column 99.
+// Whether the text, which has one line, is a file, or is refused at a column.
 fn is_said(alloc: Global, text: &[u8], refusal: Option<(usize, Cause, &[u8])>) -> bool {
-    let tokens = match lex(alloc, text) {
-        Ok(tokens) => tokens,
-        Err(_) => return false,
+    let Ok(Tokens { list, end }) = lex(alloc, text) else {
+        return false;
     };
-    let end = Place {
-        line: 1,
-        column: 99,
-    };
-    match steps(alloc, text, &tokens, end) {
+    match steps(alloc, text, &list, end) {
         Ok(_) => refusal.is_none(),
         Err(Fault::Memory) => false,
         Err(Fault::Refused(place, cause, word)) => match refusal {
@@ -37,8 +32,18 @@ fn is_refused(alloc: Global, text: &[u8], column: usize, cause: Cause, token: &[
 fn files(rt: HostRuntime) -> Result<(), Fail> {
     let alloc = rt.alloc();
     assert!(rt; is_file(alloc, b""));
-    assert!(rt; is_file(alloc, b"typedef int T; T f(T a) { if (a) return 1; else if (a - 1) return (T) a; else return f(a) * 2; }"));
-    assert!(rt; is_file(alloc, b"int f(size_t a) { for (int i = 0; i < 3; i++) a += 1; switch (a) { case 1: case 2: ; default: } return 0; }"));
+    assert!(rt;
+        is_file(
+            alloc,
+            b"typedef int T; T f(T a) { if (a) return 1; else if (a - 1) return (T) a; else return f(a) * 2; }"
+        )
+    );
+    assert!(rt;
+        is_file(
+            alloc,
+            b"int f(size_t a) { for (int i = 0; i < 3; i++) a += 1; switch (a) { case 1: case 2: ; default: } return 0; }"
+        )
+    );
     Ok(())
 }
 
@@ -46,10 +51,42 @@ fn files(rt: HostRuntime) -> Result<(), Fail> {
 fn refusals(rt: HostRuntime) -> Result<(), Fail> {
     let alloc = rt.alloc();
     assert!(rt; is_refused(alloc, b"int f( {", 8, Cause::Unexpected, b"{"));
-    assert!(rt; is_refused(alloc, b"void f(void) { goto x; }", 16, Cause::NotInProfile, b"goto"));
-    assert!(rt; is_refused(alloc, b"void f(void) { static int x; }", 16, Cause::NotInProfile, b"static"));
-    assert!(rt; is_refused(alloc, b"typedef int T; int f(int a) { int T; }", 35, Cause::Unexpected, b"T"));
-    assert!(rt; is_refused(alloc, b"int f(void) { return \"x\"; }", 23, Cause::NotInProfile, b"\"x\""));
-    assert!(rt; is_refused(alloc, b"int f(", 99, Cause::UnexpectedEnd, b""));
+    assert!(rt;
+        is_refused(
+            alloc,
+            b"void f(void) { goto x; }",
+            16,
+            Cause::NotInProfile,
+            b"goto"
+        )
+    );
+    assert!(rt;
+        is_refused(
+            alloc,
+            b"void f(void) { static int x; }",
+            16,
+            Cause::NotInProfile,
+            b"static"
+        )
+    );
+    assert!(rt;
+        is_refused(
+            alloc,
+            b"typedef int T; int f(int a) { int T; }",
+            35,
+            Cause::Unexpected,
+            b"T"
+        )
+    );
+    assert!(rt;
+        is_refused(
+            alloc,
+            b"int f(void) { return \"x\"; }",
+            22,
+            Cause::NotInProfile,
+            b"\"x\""
+        )
+    );
+    assert!(rt; is_refused(alloc, b"int f(", 7, Cause::UnexpectedEnd, b""));
     Ok(())
 }

@@ -1,5 +1,4 @@
-use Rattle.std.proofs.Common.{◌≡◌, List, ℕ, [], sym, subst}
-use Rattle.std.specs.Prelude.{All}
+use Rattle.std.proofs.Common.{[], subst}
 use Rattle.c_lexer.specs.Texts.{StandsIn}
 use Rattle.c_parser.specs.File as file
 use Rattle.c_parser.specs.declared.fault.Cause.{Cause}

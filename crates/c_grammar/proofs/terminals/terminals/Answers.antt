@@ -1,6 +1,5 @@
-use Rattle.std.proofs.Common.{◌≡◌, ◌∙◌, List, ℕ, [], sym, ap}
+use Rattle.std.proofs.Common.{◌≡◌, ◌∙◌, List, ℕ, [], ap}
 use Rattle.c_lexer.specs.Texts.{StandsIn, text_of}
-use Rattle.c_grammar.specs.declared.grammar.Class.{Class}
 use Rattle.c_grammar.specs.Classes.{class_before}
 use Rattle.c_grammar.specs.Terminals.{names_after}
 use Rattle.c_grammar.proofs.Tokens.{all_behind, all_first, known_more, terminal_more}

@@ -1,4 +1,4 @@
-use Rattle.std.proofs.Common.{◌≡◌, List, [], ◌++◌, length}
+use Rattle.std.proofs.Common.{◌≡◌, [], ◌++◌, length}
 use Rattle.std.specs.Prelude.{All}
 use Rattle.c_lexer.specs.Texts.{StandsIn}
 use Rattle.c_grammar.specs.Terminals.{names_after, terminals_by}
