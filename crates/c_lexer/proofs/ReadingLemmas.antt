@@ -18,8 +18,8 @@ use Rattle.c_lexer.specs.Defines.{Definition, defined_as, BodiesStand}
 use Rattle.c_lexer.specs.Lines.{line_end, ReadsLine, TakesLine}
 use Rattle.c_lexer.specs.Pieces.{PieceStands, piece_of, text_between}
 use Rattle.c_lexer.specs.Places.{place_after, ends_blank, spot_after, after_byte}
-use Rattle.c_lexer.specs.Spells.{Point, start, begins_directive, met_at, standing_for, stood, given, Steps, item, directive, SpellsTo, end, step, Spells, max_tokens, IsStuck, item as stuck_item, directive as stuck_directive, many, IsRefused, IfRefused, IsFaultOf, HasNoTokens, Goes}
-use Rattle.c_lexer.specs.Starts.{begins_byte, StandsFirst, IsWrong}
+use Rattle.c_lexer.specs.Spells.{Point, start, begins_directive, met_at, standing_for, stood, given, Steps, item, directive, SpellsTo, end, step, Spells, max_tokens, IsStuck, item as stuck_item, directive as stuck_directive, many, IsRefused, IfRefused, IsFaultOf, IsOnlyFault, HasNoTokens, Goes}
+use Rattle.c_lexer.specs.Starts.{begins_byte, StandsFirst, IsWrong, open_comment, bad_token}
 use Rattle.c_lexer.specs.Texts.{StandsIn}
 use Rattle.c_lexer.proofs.DefineLemmas.{body_stands}
 use Rattle.c_lexer.proofs.LineLemmas.{reads_same, takes_same}
@@ -248,3 +248,84 @@ goes_line bytes at next ds later tokens ends hash takes = record {
   steps = subst (λ k. Steps bytes (record { at = at; defines = ds }) [] (record { at = k; defines = later })) (sym ends) (directive hash later takes);
   joined = sym (append-nil tokens);
 }
+
+-- ---- one refusal
+
+wrong_same : {text : List ℕ} {wrong other : Wrong} → IsWrong text wrong → IsWrong text other → wrong ≡ other
+wrong_same (open_comment is unclosed) (open_comment too never) = refl
+wrong_same (open_comment is unclosed) (bad_token some too none) = absurd (cc)
+wrong_same (bad_token some is none) (open_comment too unclosed) = absurd (cc)
+wrong_same (bad_token some is none) (bad_token more too never) = refl
+
+no_more_wrong : {bytes : List ℕ} {from next : Point} {first : List Token} (wrong : Wrong) → begins_directive bytes from.at ≡ false → IsWrong (drop from.at bytes) wrong → Steps bytes from first next → ⊥
+no_more_wrong wrong no_hash is (item too n class stands) = wrong_nothing is n class stands
+no_more_wrong wrong no_hash is (directive hash later takes) = both_ways _ no_hash hash
+
+no_more_refused : {bytes : List ℕ} {from next : Point} {first : List Token} (wrong : Wrong) → begins_directive bytes from.at ≡ true → ReadsLine bytes from.defines from.at (Err wrong)
+    → Steps bytes from first next → ⊥
+no_more_refused wrong hash reads (item no_hash n class stands) = both_ways _ no_hash hash
+no_more_refused wrong hash reads (directive too later takes) = err_same takes.new wrong (reads_same takes.reads reads)
+
+told : (bytes : List ℕ) (at : ℕ) (wrong other : Wrong) → wrong ≡ other → (place_after (take (at + wrong.offset) bytes) ≡ place_after (take (at + other.offset) bytes)) × (wrong.cause ≡ other.cause)
+told bytes at wrong other e = (ap (λ w. place_after (take (at + w.offset) bytes)) e, ap (λ w. w.cause) e)
+
+errs_same : (wrong other : Wrong) → ◌≡◌ {A = Result (Option Definition) Wrong} (Err wrong) (Err other) → wrong ≡ other
+errs_same wrong other e = cc
+
+stuck_same : {bytes : List ℕ} {from : Point} {count number : ℕ} {place there : Place} {why cause : Cause} → IsStuck bytes from count place why → IsStuck bytes from number there cause
+    → (place ≡ there) × (why ≡ cause)
+stuck_same {bytes = bytes} {from = from} (stuck_item no_hash wrong is) (stuck_item too other is_too) = told bytes from.at wrong other (wrong_same is is_too)
+stuck_same (stuck_item no_hash wrong is) (stuck_directive hash other reads) = absurd (both_ways _ no_hash hash)
+stuck_same (stuck_item no_hash wrong is) (many first on steps over) = absurd (no_more_wrong wrong no_hash is steps)
+stuck_same (stuck_directive hash wrong reads) (stuck_item no_hash other is) = absurd (both_ways _ no_hash hash)
+stuck_same {bytes = bytes} {from = from} (stuck_directive hash wrong reads) (stuck_directive too other reads_too) =
+    told bytes from.at wrong other (errs_same wrong other (reads_same reads reads_too))
+stuck_same (stuck_directive hash wrong reads) (many first on steps over) = absurd (no_more_refused wrong hash reads steps)
+stuck_same (many first on steps over) (stuck_item no_hash other is) = absurd (no_more_wrong other no_hash is steps)
+stuck_same (many first on steps over) (stuck_directive hash other reads) = absurd (no_more_refused other hash reads steps)
+stuck_same (many first on steps over) (many second on_too steps_too over_too) = (refl, refl)
+
+-- of two ways from a point one goes on where the other ends
+data Meets (bytes : List ℕ) (stop other : Point) (tokens others : List Token) : Type 0 where
+  before : (rest : List Token) → others ≡ tokens ++ rest → SpellsTo bytes other stop rest → Meets bytes stop other tokens others
+  behind : (rest : List Token) → tokens ≡ others ++ rest → SpellsTo bytes stop other rest → Meets bytes stop other tokens others
+
+meets_step : {bytes : List ℕ} {stop other : Point} {tokens others : List Token} (first : List Token) → Meets bytes stop other tokens others → Meets bytes stop other (first ++ tokens) (first ++ others)
+meets_step {tokens = tokens} first (before rest e spells) = before rest (ap (λ ts. first ++ ts) e ∙ sym (append_assoc first tokens rest)) spells
+meets_step {others = others} first (behind rest e spells) = behind rest (ap (λ ts. first ++ ts) e ∙ sym (append_assoc first others rest)) spells
+
+meets : {bytes : List ℕ} {stop other from : Point} {tokens others : List Token} → SpellsTo bytes stop from tokens → SpellsTo bytes other from others → Meets bytes stop other tokens others
+meets {others = others} end way = before others refl way
+meets {tokens = tokens} (step on one rest) end = behind tokens refl (step on one rest)
+meets {bytes = bytes} {stop = stop} {other = other} (step {first = first} {later = later} on one rest) (step {first = second} {later = others} next too way) =
+    let same = steps_same one too in
+    let moved = subst (λ p. SpellsTo bytes other p others) (sym same.1) way in
+    subst (λ ts. Meets bytes stop other (first ++ later) (ts ++ others)) same.0 (meets_step first (meets rest moved))
+
+ends_there : {bytes : List ℕ} {point stop : Point} {rest : List Token} {place : Place} {why : Cause} (tokens : List Token) → IsStuck bytes point (length tokens) place why → SpellsTo bytes stop point rest
+    → length (tokens ++ rest) ≤ max_tokens → stop ≡ point
+ends_there tokens stuck end few = refl
+ends_there tokens stuck (step {first = first} {later = later} on one rest) few =
+    let over = stuck_many stuck one in
+    let inner = length-append first later in
+    let outer = length-append tokens (first ++ later) in
+    let wrong : ⊥ = omega (arith, over, inner, outer, few) in
+    absurd wrong
+
+same_there : {bytes : List ℕ} {point other : Point} {count number : ℕ} {place there : Place} {why cause : Cause} → point ≡ other → IsStuck bytes point count place why
+    → IsStuck bytes other number there cause → (place ≡ there) × (why ≡ cause)
+same_there {bytes = bytes} {number = number} {there = there} {cause = cause} e stuck too = stuck_same stuck (subst (λ p. IsStuck bytes p number there cause) (sym e) too)
+
+one_stop : {bytes : List ℕ} {point other : Point} {place there : Place} {why cause : Cause} (tokens others : List Token) → length tokens ≤ max_tokens → length others ≤ max_tokens
+    → IsStuck bytes point (length tokens) place why → IsStuck bytes other (length others) there cause → Meets bytes point other tokens others → (place ≡ there) × (why ≡ cause)
+one_stop tokens others few fewer stuck too (before rest e spells) =
+    same_there (sym (ends_there tokens stuck spells (subst (λ ts. length ts ≤ max_tokens) e fewer))) stuck too
+one_stop tokens others few fewer stuck too (behind rest e spells) =
+    same_there (ends_there others too spells (subst (λ ts. length ts ≤ max_tokens) e few)) stuck too
+
+refused_same : {bytes : List ℕ} {place there : Place} {why cause : Cause} → IsRefused bytes place why → IsRefused bytes there cause → (place ≡ there) × (why ≡ cause)
+refused_same is too = one_stop is.tokens too.tokens is.few too.few is.stuck too.stuck (meets is.spelled too.spelled)
+
+pub fault_only : (bytes : List ℕ) (why : Fault) → IsFaultOf bytes why → IsOnlyFault bytes why
+fault_only bytes (fault.Refused place why) is = λ there cause too. refused_same too is
+fault_only bytes fault.Memory is = tt

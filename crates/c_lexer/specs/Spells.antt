@@ -94,6 +94,10 @@ IfRefused Says Memory = Unit {0}
 abbrev pub IsFaultOf : List ℕ → Fault → Type 0
 IsFaultOf bytes = IfRefused (IsRefused bytes)
 
+-- the fault is want of memory, or no other place and cause are told so
+abbrev pub IsOnlyFault : List ℕ → Fault → Type 0
+IsOnlyFault bytes = IfRefused (λ place cause. (there : Place) (why : Cause) → IsRefused bytes there why → (there ≡ place) × (why ≡ cause))
+
 -- the fault is want of memory, or the bytes spell nothing, or too many tokens
 abbrev pub HasNoTokens : List ℕ → Fault → Type 0
 HasNoTokens bytes = IfRefused (λ _ _. (tokens : List Token) → Spells bytes tokens → length tokens ≤ max_tokens → ⊥)

@@ -9,7 +9,7 @@ ghost use Rattle.c_lexer.specs.Lines.{TakesLine, line_end};
 ghost use Rattle.c_lexer.specs.Pieces.{PieceStands, piece_of};
 ghost use Rattle.c_lexer.specs.Places.{place_after, ends_blank, spot_after};
 ghost use Rattle.c_lexer.specs.Spells as spec;
-ghost use Rattle.c_lexer.specs.Spells.{Spells, Goes, IsStuck, IsFaultOf, HasNoTokens, IfRefused, max_tokens, met_at, stood};
+ghost use Rattle.c_lexer.specs.Spells.{Spells, Goes, IsStuck, IsFaultOf, IsOnlyFault, HasNoTokens, IfRefused, max_tokens, met_at, stood};
 ghost use Rattle.c_lexer.specs.Texts.{StandsIn};
 
 use crate::defines::Defines;
@@ -36,6 +36,7 @@ pub fn lex(alloc: Global, bytes: &[u8]) -> Result<Tokens, Fault>
     // Where the bytes are refused, they spell nothing, or too many tokens, and the place is the first from which nothing goes on.
     ensures none { IfErr result (HasNoTokens bytes.now) }
     ensures refused { IfErr result (IsFaultOf bytes.now) }
+    ensures first { IfErr result (IsOnlyFault bytes.now) }
 {
     let mut tokens = Vec::new(alloc);
     let mut defines = Defines::new(alloc);

@@ -2,7 +2,7 @@ use Rattle.std.proofs.Common.{◌≡◌, ◌+◌, ◌-◌, ◌≤◌, length, ta
 use Rattle.std.proofs.lemmas.List.{length-take, length-drop, take_all}
 use Rattle.c_lexer.specs.Places.{place_after}
 use Rattle.c_lexer.proofs.PlaceLemmas.{room_behind}
-use Rattle.c_lexer.proofs.ReadingLemmas.{Stands, stands_start, stands_step, reads_end, reads_only, fault_none, fault_refused}
+use Rattle.c_lexer.proofs.ReadingLemmas.{Stands, stands_start, stands_step, reads_end, reads_only, fault_none, fault_refused, fault_only}
 use Rattle.c_lexer.proofs.lexer.lex.Goals as goal
 
 pub items-init : goal.items-init
@@ -60,3 +60,7 @@ returns-clause-within c = c.items.invariant.stand
 pub returns-clause-last : goal.returns-clause-last
 returns-clause-last c =
     ap (λ s. s.place) c.items.invariant.spotted ∙ ap place_after (take_all c.items.at c.args.bytes.now c.items-test.false)
+
+pub returns-in-Err-clause-first : goal.returns-in-Err-clause-first
+unfolding returns-in-Err-clause-refused
+returns-in-Err-clause-first c = fault_only c.args.bytes.now c.in-Err.fault (returns-in-Err-clause-refused c)
