@@ -5,7 +5,7 @@ use Rattle.std.proofs.lemmas.List.{length-map}
 use Rattle.std.proofs.lemmas.List.Elements.{All-nil, All-cons}
 use Rattle.rvt_tree.specs.declared.programs.Function.{Function}
 use Rattle.rvt_tree.specs.declared.programs.Program.{Program}
-use Rattle.c_lexer.specs.Classes.{StandsIn}
+use Rattle.c_lexer.specs.Texts.{StandsIn}
 use Rattle.first_form.specs.Actions.{FunctionTree, nothing_read}
 use Rattle.first_form.specs.Shown.{function_tree}
 use Rattle.first_form.specs.Source.{IsReading}

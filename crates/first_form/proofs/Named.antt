@@ -16,7 +16,7 @@ use Rattle.c_parser.specs.declared.symbol.Step.TheVariants as S
 use Rattle.first_form.specs.declared.grammar.Action.{Action}
 use Rattle.first_form.specs.declared.grammar.Action.TheVariants as A
 use Rattle.first_form.specs.Actions.{FunctionTree, Called, Reading, number_among, is_among, max_functions, max_params, int_function, define_by, with_expression, operation_of, argument_by, count_of, arguments_of, call_by, statement_by, block_by, choice_by, return_by, made}
-use Rattle.c_lexer.specs.Classes.{text_of}
+use Rattle.c_lexer.specs.Texts.{text_of}
 use Rattle.first_form.specs.Source.{value_of, after_steps}
 use Rattle.first_form.specs.Texts.{HasNoLineEnd}
 

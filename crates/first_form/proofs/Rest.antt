@@ -2,7 +2,7 @@
 use Rattle.std.proofs.Common.{◌≡◌, ℕ, suc, List, ◌∷◌, ◌++◌, [], Option, Some, None, refl, sym, ◌∙◌, ap, subst, arith, append_assoc}
 use Rattle.std.specs.Prelude.{All}
 use Rattle.std.specs.Option.{option_map, option_and_then}
-use Rattle.c_lexer.specs.Classes.{text_of}
+use Rattle.c_lexer.specs.Texts.{text_of}
 use Rattle.c_lexer.specs.declared.tokens.Token.{Token}
 use Rattle.c_parser.specs.declared.symbol.Token.{Token as Terminal}
 use Rattle.first_form.specs.declared.grammar.Class.{Class}

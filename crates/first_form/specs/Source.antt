@@ -4,15 +4,15 @@ use Rattle.std.specs.List.{list_any}
 use Rattle.std.specs.Option.{option_and_then}
 use Rattle.std.specs.Str.{bytes_eq}
 use Rattle.rvt_tree.specs.declared.programs.Program.{Program}
-use Rattle.c_lexer.specs.Classes.{text_of}
+use Rattle.c_lexer.specs.Texts.{text_of}
 use Rattle.c_lexer.specs.Spells.{Spells}
-use Rattle.c_lexer.specs.declared.tokens.Keyword.{Keyword}
-use Rattle.c_lexer.specs.declared.tokens.Keyword.TheVariants as K
-use Rattle.c_lexer.specs.declared.tokens.Punctuator.{Punctuator}
-use Rattle.c_lexer.specs.declared.tokens.Punctuator.TheVariants as P
+use Rattle.c_tokens.specs.declared.tokens.Keyword.{Keyword}
+use Rattle.c_tokens.specs.declared.tokens.Keyword.TheVariants as K
+use Rattle.c_tokens.specs.declared.tokens.Punctuator.{Punctuator}
+use Rattle.c_tokens.specs.declared.tokens.Punctuator.TheVariants as P
 use Rattle.c_lexer.specs.declared.tokens.Token.{Token}
-use Rattle.c_lexer.specs.declared.tokens.TokenClass.{TokenClass}
-use Rattle.c_lexer.specs.declared.tokens.TokenClass.TheVariants as T
+use Rattle.c_tokens.specs.declared.tokens.TokenClass.{TokenClass}
+use Rattle.c_tokens.specs.declared.tokens.TokenClass.TheVariants as T
 use Rattle.c_parser.specs.declared.symbol.Token.{Token as Terminal}
 use Rattle.c_parser.specs.declared.symbol.Step.{Step}
 use Rattle.c_parser.specs.declared.symbol.Step.TheVariants as S

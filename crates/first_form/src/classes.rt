@@ -4,14 +4,15 @@ ghost use Rattle.std.specs.Prelude.{◌≡◌, All};
 ghost use Rattle.std.specs.List.{list_any};
 ghost use Rattle.std.specs.Str.{bytes_eq};
 ghost use Rattle.first_form.specs.Source as spec;
-ghost use Rattle.c_lexer.specs.Classes.{text_of, StandsIn};
+ghost use Rattle.c_lexer.specs.Texts.{text_of, StandsIn};
 ghost use Rattle.first_form.specs.Source.{terminals_of};
 ghost use Rattle.first_form.specs.Shown.{Gives};
 
 use crate::grammar::Class;
 use crate::refused::Refused;
-use c_lexer::{Keyword, Punctuator, Token, TokenClass};
+use c_lexer::Token;
 use c_parser::Token as Terminal;
+use c_tokens::{Keyword, Punctuator, TokenClass};
 use std::alloc::Global;
 
 /// The bytes of a token.

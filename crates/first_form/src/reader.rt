@@ -1,7 +1,7 @@
 //! The program of a file.
 
 ghost use Rattle.std.specs.Prelude.{◌≡◌, ◌≤◌, [], length, map, All, IfOk, IfErr};
-ghost use Rattle.c_lexer.specs.Classes.{StandsIn};
+ghost use Rattle.c_lexer.specs.Texts.{StandsIn};
 ghost use Rattle.first_form.specs.Texts.{HasNoLineEnd};
 ghost use Rattle.first_form.specs.Actions.{nothing_read};
 ghost use Rattle.first_form.specs.Shown.{reading, Follows};
@@ -12,14 +12,12 @@ use crate::classes::{terminals, text};
 use crate::grammar::{Action, FirstForm};
 use crate::refused::Refused;
 use crate::translation::Translation;
-use c_lexer::{Token, TokenClass, lex};
+use c_lexer::{Token, lex};
 use c_parser::{Step, parse};
+use c_tokens::TokenClass;
 use rvt_tree::{Function, Program, Structs, Table};
 use sqlite_items::Items;
 use std::alloc::Global;
-
-/// The most tokens that a file may have.
-const MAX_TOKENS: usize = 200_000;
 
 /// The program that a file of the first form is. It is refused where it is no such file.
 pub fn read(alloc: Global, bytes: &[u8]) -> Result<Program, Refused>
@@ -29,13 +27,10 @@ pub fn read(alloc: Global, bytes: &[u8]) -> Result<Program, Refused>
     ensures names { IfOk result (λ program. All (λ f. HasNoLineEnd f.name) program.functions) }
 {
     let tokens = match lex(alloc, bytes) {
-        Ok(tokens) => tokens,
+        Ok(tokens) => tokens.list,
         Err(c_lexer::Fault::Memory) => return Err(Refused::Memory),
         Err(c_lexer::Fault::Refused(_, _)) => return Err(Refused::Form),
     };
-    if tokens.len() > MAX_TOKENS {
-        return Err(Refused::Form);
-    }
     let terminals = terminals(alloc, bytes, &tokens)?;
     let steps = match parse::<FirstForm>(alloc, &terminals) {
         Ok(steps) => steps,

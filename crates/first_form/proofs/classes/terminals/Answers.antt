@@ -1,6 +1,6 @@
 use Rattle.std.proofs.Common.{◌≡◌, ◌∙◌, List, ℕ, ◌++◌, Some, sym, ap}
 use Rattle.std.specs.Option.{option_map}
-use Rattle.c_lexer.specs.Classes.{StandsIn, text_of}
+use Rattle.c_lexer.specs.Texts.{StandsIn, text_of}
 use Rattle.c_parser.specs.declared.symbol.Token.{Token as Terminal}
 use Rattle.first_form.specs.declared.grammar.Class.{Class}
 use Rattle.first_form.specs.Source.{class_of, terminals_of}

@@ -3,7 +3,7 @@ use Rattle.std.specs.Option.{option_map}
 use Rattle.c_parser.specs.declared.symbol.Token.{Token as Terminal}
 use Rattle.first_form.specs.declared.grammar.Class.{Class}
 use Rattle.std.specs.Prelude.{All}
-use Rattle.c_lexer.specs.Classes.{StandsIn}
+use Rattle.c_lexer.specs.Texts.{StandsIn}
 use Rattle.first_form.specs.Source.{terminals_of}
 use Rattle.first_form.proofs.classes.terminals.Given as goal
 

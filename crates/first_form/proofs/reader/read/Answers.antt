@@ -1,4 +1,4 @@
-use Rattle.std.proofs.Common.{◌≡◌, ◌∙◌, List, [], Some, length, map, sym, ap, subst, arith}
+use Rattle.std.proofs.Common.{◌≡◌, ◌∙◌, List, [], Some, map, sym, ap, subst}
 use Rattle.rvt_tree.specs.declared.programs.Function.{Function}
 use Rattle.c_lexer.specs.declared.tokens.Token.{Token}
 use Rattle.c_parser.specs.declared.symbol.Step.{Step}
@@ -17,12 +17,10 @@ use Rattle.first_form.proofs.reader.read.Goals as goal
 pub returns-clause-program : goal.returns-clause-program
 returns-clause-program c =
     let bytes = c.args.bytes.now in
-    let tokens = c.in-Ok.tokens.items in
+    let tokens = c.in-Ok.tokens.list.items in
     let terminals = c.in_ok-terminals.terminals.items in
     let steps = c.in-Ok-parse.steps.items in
     let after = c.translate.new.translation in
-    let count : length tokens ≡ c.in-Ok.tokens.len = sym c.in-Ok.tokens.ok.0 in
-    let same : c.len.result ≡ c.in-Ok.tokens.len = c.len.ensures in
     let classed : terminals_of bytes tokens ≡ Some terminals = ap (terminals_of bytes) (sym c.deref.ensures.value) ∙ c.in_ok-terminals.ensures in
     let parsed : IsFile rules max_levels terminals steps = subst (λ (ts : List (Terminal Class)). IsFile rules max_levels ts steps) c.deref-2.ensures.value c.in-Ok-parse.ensures.steps.is in
     let told : after_steps bytes c.deref-3.result.now [] 0 c.deref-4.result.now (reading c.new-translation.result) ≡ Some (reading after) = c.in_ok-translate.ensures in
@@ -34,7 +32,7 @@ returns-clause-program c =
     record {
       tokens = tokens;
       spelled = c.in-Ok.ensures.spelled;
-      few = omega (arith, count, same, c.if-len-gt-MAX_TOKENS.false);
+      few = c.in-Ok.ensures.few;
       terminals = terminals;
       classed = classed;
       steps = steps;

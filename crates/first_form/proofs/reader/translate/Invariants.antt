@@ -1,7 +1,7 @@
 use Rattle.std.proofs.Common.{length, ◌≡◌, []}
 use Rattle.first_form.specs.Shown.{reading}
 use Rattle.std.specs.Prelude.{All}
-use Rattle.c_lexer.specs.Classes.{StandsIn}
+use Rattle.c_lexer.specs.Texts.{StandsIn}
 use Rattle.first_form.specs.Source.{after_steps}
 use Rattle.first_form.proofs.reader.translate.Given as goal
 
