@@ -59,7 +59,15 @@ fn bad_numbers(rt: HostRuntime) -> Result<(), Fail> {
     assert!(rt; is_refused(alloc, b"x = 08;", 1, 5, Cause::BadNumber));
     assert!(rt; is_refused(alloc, b"\n 1.5", 2, 2, Cause::BadNumber));
     assert!(rt; is_refused(alloc, b"f(12ab)", 1, 3, Cause::BadNumber));
-    assert!(rt; is_refused(alloc, b"int f(int a) { return 08; }", 1, 23, Cause::BadNumber));
+    assert!(rt;
+        is_refused(
+            alloc,
+            b"int f(int a) { return 08; }",
+            1,
+            23,
+            Cause::BadNumber
+        )
+    );
     assert!(rt; is_refused(alloc, b"99999999999999999999999", 1, 1, Cause::BadNumber));
     assert!(rt; is_refused(alloc, b"1...", 1, 1, Cause::BadNumber));
     Ok(())

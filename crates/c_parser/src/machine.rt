@@ -8,10 +8,10 @@ ghost use Rattle.c_parser.specs.Stands.{StandsBefore, StandsAt, Advances};
 use crate::choose::{choose, choose_at_end, is_same};
 use crate::fault::{Cause, Fault};
 use crate::grammar::Grammar;
-use value_stack::Stack;
 use crate::state::{State, before_all, class_of, read, turn};
 use crate::symbol::{Effect, Step, Symbol, Token, Turn};
 use std::alloc::{AllocError, Global};
+use value_stack::Stack;
 
 /// What is still to be read, and what has been done.
 #[derive(Drop)]

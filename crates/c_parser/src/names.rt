@@ -1,10 +1,10 @@
 ghost use Rattle.std.specs.Prelude.{◌≡◌, [], OnOk};
 ghost use Rattle.c_parser.specs.Names.{is_among, with_name, with_names};
 
-use value_stack::Stack;
 use std::alloc::{AllocError, Global};
 use std::collections::BTreeSet;
 use std::marker::Model;
+use value_stack::Stack;
 
 /// A set of names by number, which contracts see as the list of them in ascending order.
 #[derive(Debug, Drop)]

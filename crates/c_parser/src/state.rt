@@ -4,9 +4,9 @@ ghost use Rattle.c_parser.specs.State.{class_at, after, turned, start, max_level
 use crate::choose::is_same;
 use crate::grammar::Grammar;
 use crate::names::Names;
-use value_stack::Stack;
 use crate::symbol::{Effect, Token, Turn};
 use std::alloc::{AllocError, Global};
+use value_stack::Stack;
 
 /// What has been read so far, as far as later tokens depend on it.
 #[derive(Drop)]

@@ -196,7 +196,6 @@ pub record IsApart (byte : ℕ) : Type 0 where
 apart_class : (byte : ℕ) (bytes : List ℕ) → IsApart byte → token_class (byte ∷ bytes) ≡ option_map class.Punct (punctuator_of (byte ∷ bytes))
 apart_class byte bytes apart = other_class byte bytes apart.letter apart.digit apart.quote apart.double_quote
 
-
 empty_written : written_so punctuators [] ≡ None
 empty_written = refl
 

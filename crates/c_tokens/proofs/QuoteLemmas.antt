@@ -52,8 +52,8 @@ pub byte_fits : (base : Base) (digits : List ℕ) (n : ℕ) → 0 < length digit
 byte_fits base digits n some run value fits =
     let is : digits_value base digits ≡ n = value_by _ (digits_value base digits) n value in
     let test : (ltb 0 (length digits) && list_all (is_digit_of base) digits && leb (digits_value base digits) 255) ≡ true =
-        and_from (ltb 0 (length digits) && list_all (is_digit_of base) digits) (leb (digits_value base digits) 255)
-        (and_from (ltb 0 (length digits)) (list_all (is_digit_of base) digits) (lt-ltb 0 (length digits) some) (all_of_run (is_digit_of base) digits run)) (le-leb (digits_value base digits) 255 (omega (arith, is, fits))) in
+    and_from (ltb 0 (length digits) && list_all (is_digit_of base) digits) (leb (digits_value base digits) 255)
+    (and_from (ltb 0 (length digits)) (list_all (is_digit_of base) digits) (lt-ltb 0 (length digits) some) (all_of_run (is_digit_of base) digits run)) (le-leb (digits_value base digits) 255 (omega (arith, is, fits))) in
     subst (λ b. cond b (Some (digits_value base digits)) None ≡ Some n) (sym test) (ap Some is)
 
 pub is_some_length : (n : ℕ) → false ≡ eqb n 0 → 0 < n
@@ -84,8 +84,8 @@ closed_before quote escaped (byte ∷ bytes) more n h =
     elim parts.1 [
       | inl at ↦ rw at.1 (here_step (is_line_end byte) (eqb byte quote && not escaped) _ parts.0 at.0)
       | inr later ↦
-        rw later.1.2 (later_step (is_line_end byte) (eqb byte quote && not escaped) _ later.1.0 parts.0 later.0
-        (closed_before quote (eqb byte 92 && not escaped) bytes more later.1.0 later.1.1))
+          rw later.1.2 (later_step (is_line_end byte) (eqb byte quote && not escaped) _ later.1.0 parts.0 later.0
+          (closed_before quote (eqb byte 92 && not escaped) bytes more later.1.0 later.1.1))
     ]
 
 -- and so is its front up to there
@@ -96,8 +96,8 @@ closed_front quote escaped (byte ∷ bytes) n h =
     elim parts.1 [
       | inl at ↦ rw at.1 (here_step (is_line_end byte) (eqb byte quote && not escaped) (to_quote quote (eqb byte 92 && not escaped) []) parts.0 at.0)
       | inr later ↦
-        rw later.1.2 (later_step (is_line_end byte) (eqb byte quote && not escaped) _ later.1.0 parts.0 later.0
-        (closed_front quote (eqb byte 92 && not escaped) bytes later.1.0 later.1.1))
+          rw later.1.2 (later_step (is_line_end byte) (eqb byte quote && not escaped) _ later.1.0 parts.0 later.0
+          (closed_front quote (eqb byte 92 && not escaped) bytes later.1.0 later.1.1))
     ]
 
 -- no line ends in a text that its last byte closes

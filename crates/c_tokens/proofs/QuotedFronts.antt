@@ -131,7 +131,7 @@ other_by bytes n found within none front after c e is =
     let closed = character_closed q.inner q.number q.is in
     let long = found_length 39 bytes q.inner q.after n q.whole closed found in
     let inner : take (length q.inner - 1) q.inner ≡ take (n - 1) bytes =
-        sym (take-append-le (length q.inner - 1) q.inner q.after (omega arith)) ∙ ap (take (length q.inner - 1)) (sym q.whole) ∙ ap (λ k. take (k - 1) bytes) long in
+    sym (take-append-le (length q.inner - 1) q.inner q.after (omega arith)) ∙ ap (take (length q.inner - 1)) (sym q.whole) ∙ ap (λ k. take (k - 1) bytes) long in
     no_value (one_character (take (length q.inner - 1) q.inner)) q.number (ap one_character inner ∙ none) (sym (character_value q.inner closed) ∙ q.is)
 
 pub no_character_there : (text : List ℕ) (n : ℕ) → 0 < length text → get_or text 0 0 ≡ 39 → to_quote 39 false (drop 1 text) ≡ Some n → n ≤ length (drop 1 text)

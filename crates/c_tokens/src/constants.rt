@@ -86,10 +86,15 @@ fn suffix_of(text: &[u8]) -> Option<Suffix>
 }
 
 const ANY: [Kind; 4] = [Kind::I32, Kind::U32, Kind::I64, Kind::U64];
+
 const ANY_LONG: [Kind; 2] = [Kind::I64, Kind::U64];
+
 const SIGNED: [Kind; 2] = [Kind::I32, Kind::I64];
+
 const SIGNED_LONG: [Kind; 1] = [Kind::I64];
+
 const UNSIGNED: [Kind; 2] = [Kind::U32, Kind::U64];
+
 const UNSIGNED_LONG: [Kind; 1] = [Kind::U64];
 
 /// The kinds that a constant may have, in the order in which they are tried.

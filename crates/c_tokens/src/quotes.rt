@@ -52,13 +52,7 @@ pub fn one_character(inner: &[u8]) -> Option<u8>
 {
     match inner {
         [b'\\', escape @ ..] => escaped_value(escape),
-        [byte] => {
-            if is_plain(*byte) {
-                Some(*byte)
-            } else {
-                None
-            }
-        }
+        [byte] => { if is_plain(*byte) { Some(*byte) } else { None } }
         _ => None,
     }
 }

@@ -17,11 +17,19 @@ fn begins_none(text: &[u8], why: NoToken) -> bool {
 }
 
 fn is_constant(text: &[u8], kind: Kind, value: i128) -> bool {
-    begins(text, TokenClass::Constant(Num::wrapped(kind, value)), text.len())
+    begins(
+        text,
+        TokenClass::Constant(Num::wrapped(kind, value)),
+        text.len(),
+    )
 }
 
 fn is_character(text: &[u8], value: i128) -> bool {
-    begins(text, TokenClass::Character(Num::wrapped(Kind::I32, value)), text.len())
+    begins(
+        text,
+        TokenClass::Character(Num::wrapped(Kind::I32, value)),
+        text.len(),
+    )
 }
 
 #[test]

@@ -10,11 +10,11 @@ ghost use Rattle.rvt_tree.specs.Views.{stmt_view};
 use crate::declared::Declared;
 use crate::grammar::Action;
 use crate::refused::Refused;
-use value_stack::Stack;
 use rvt_num::{BinOp, Kind, Num};
 use rvt_tree::{CType, Expr, Function, Local, Name, Stmt, Variable, builders};
 use sqlite_items::Items;
 use std::alloc::{AllocError, Global};
+use value_stack::Stack;
 
 /// The most functions that a file may define.
 const MAX_FUNCTIONS: usize = 1_000;

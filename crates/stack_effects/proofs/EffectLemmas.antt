@@ -135,9 +135,9 @@ module _ {C L A S : Type 0} (effects : Effects L A S) where
     finds (Reads.make {a = a} {row = row} rest) tokens long x r left h =
         let taken : (i : S) → ℕ = λ i. the_number (less (effects.takes a i) (size r i)) in
         let found : (made : R) × (make a x r ≡ Some made) × ((i : S) → size made i ≡ more (effects.gives a i) (taken i)) =
-            acts a x r taken (λ i. is_there (λ m. after_row effects i row (more (effects.gives a i) m)) (left i) (less (effects.takes a i) (size r i)) (h i)) in
+        acts a x r taken (λ i. is_there (λ m. after_row effects i row (more (effects.gives a i) m)) (left i) (less (effects.takes a i) (size r i)) (h i)) in
         let done : (made : R) × (after_steps seen make tokens x _ found.0 ≡ Some made) × ((i : S) → size made i ≡ left i) =
-            finds rest tokens long x found.0 left (λ i. ap (after_row effects i row) (found.2 i) ∙ onto (λ m. after_row effects i row (more (effects.gives a i) m)) (left i) (less (effects.takes a i) (size r i)) (h i)) in
+        finds rest tokens long x found.0 left (λ i. ap (after_row effects i row) (found.2 i) ∙ onto (λ m. after_row effects i row (more (effects.gives a i) m)) (left i) (less (effects.takes a i) (size r i)) (h i)) in
         (done.0, rw found.1 done.1, done.2)
 
     whole_file : (i : S) (n : ℕ) → n ≡ effects.needs rules.start i → after_row effects i (the_file rules) n ≡ Some (effects.leaves rules.start i)
