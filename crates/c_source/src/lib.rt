@@ -1,2 +1,11 @@
 //! Reading a C file.
 #![tactic(auto)]
+
+mod reader;
+mod refused;
+
+pub use reader::read;
+pub use refused::{Refusal, Refused};
+
+#[cfg(test)]
+mod tests;

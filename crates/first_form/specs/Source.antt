@@ -1,8 +1,12 @@
 -- Which bytes are a file of the first form, and which program it is.
-use Rattle.std.specs.Prelude.{◌≡◌, ℕ, ◌≤◌, Bool, if◌then◌else◌, List, [], ◌∷◌, map, length, codes, Option, Some, None, option_map}
+use Rattle.std.specs.Prelude.{◌≡◌, ℕ, ◌≤◌, Bool, true, false, if◌then◌else◌, List, [], ◌∷◌, map, length, codes, Option, Some, None, option_map}
 use Rattle.std.specs.List.{list_any}
 use Rattle.std.specs.Option.{option_and_then}
 use Rattle.std.specs.Str.{bytes_eq}
+use Rattle.rvt_num.specs.declared.kinds.Kind.{Kind}
+use Rattle.rvt_num.specs.declared.kinds.Kind.TheVariants as k
+use Rattle.rvt_num.specs.Number.{Number}
+use Rattle.rvt_num.specs.Wrapping.{bits_of}
 use Rattle.rvt_tree.specs.declared.programs.Program.{Program}
 use Rattle.c_lexer.specs.Texts.{text_of}
 use Rattle.c_lexer.specs.Spells.{Spells}
@@ -66,11 +70,22 @@ punctuator_class P.LessEqual = Some C.LessEqual
 punctuator_class P.EqualEqual = Some C.EqualEqual
 punctuator_class _ = None
 
+-- whether it is the kind of `int`
+abbrev pub is_int : Kind → Bool
+is_int k.I32 = true
+is_int _ = false
+
+-- the constants of the form are those of type `int`, however they are spelled
+abbrev pub constant_class : Number → Option Class
+constant_class number = if is_int number.kind then Some C.Constant else None
+
 -- what a token is to the grammar, if it is one of the form
 abbrev pub class_of : List ℕ → TokenClass → Option Class
 class_of text T.Word = word_class text
 class_of text (T.Keyword keyword) = keyword_class keyword
-class_of text (T.Constant value) = Some C.Constant
+class_of text (T.Constant number) = constant_class number
+class_of text (T.Character number) = None
+class_of text T.Literal = None
 class_of text (T.Punct punctuator) = punctuator_class punctuator
 
 abbrev pub terminal : Class → Terminal Class
@@ -81,9 +96,13 @@ abbrev pub terminals_of : List ℕ → List Token → Option (List (Terminal Cla
 terminals_of bytes [] = Some []
 terminals_of bytes (t ∷ ts) = option_and_then (λ class. option_map (λ rest. terminal class ∷ rest) (terminals_of bytes ts)) (class_of (text_of bytes t) t.class)
 
+-- the value of a constant of type `int`
+abbrev pub int_value : Number → ℕ
+int_value number = if is_int number.kind then bits_of number else 0
+
 -- the value of a constant
 abbrev pub value_of : TokenClass → ℕ
-value_of (T.Constant value) = value
+value_of (T.Constant number) = int_value number
 value_of _ = 0
 
 -- ---- what is read

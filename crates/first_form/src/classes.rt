@@ -13,6 +13,7 @@ use crate::refused::Refused;
 use c_lexer::Token;
 use c_parser::Token as Terminal;
 use c_tokens::{Keyword, Punctuator, TokenClass};
+use rvt_num::{Kind, Num};
 use std::alloc::Global;
 
 /// The bytes of a token.
@@ -111,6 +112,27 @@ fn punctuator_class(punctuator: Punctuator) -> Option<Class>
     }
 }
 
+/// Whether it is the kind of `int`.
+pub fn is_int(kind: Kind) -> bool
+    ensures { result ≡ spec.is_int kind }
+{
+    match kind {
+        Kind::I32 => true,
+        _ => false,
+    }
+}
+
+/// The constants of the form are those of type `int`, however they are spelled.
+fn constant_class(number: Num) -> Option<Class>
+    ensures { result ≡ spec.constant_class number }
+{
+    if is_int(number.kind()) {
+        Some(Class::Constant)
+    } else {
+        None
+    }
+}
+
 /// What a token is to the grammar, if it is one of the form.
 fn class_of(text: &[u8], class: TokenClass) -> Option<Class>
     ensures { result ≡ spec.class_of text.now class }
@@ -118,7 +140,9 @@ fn class_of(text: &[u8], class: TokenClass) -> Option<Class>
     match class {
         TokenClass::Word => word_class(text),
         TokenClass::Keyword(keyword) => keyword_class(keyword),
-        TokenClass::Constant(_) => Some(Class::Constant),
+        TokenClass::Constant(number) => constant_class(number),
+        TokenClass::Character(_) => None,
+        TokenClass::Literal => None,
         TokenClass::Punct(punctuator) => punctuator_class(punctuator),
     }
 }

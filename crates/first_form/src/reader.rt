@@ -15,6 +15,7 @@ use crate::translation::Translation;
 use c_lexer::{Token, lex};
 use c_parser::{Step, parse};
 use c_tokens::TokenClass;
+use rvt_num::{Kind, Num};
 use rvt_tree::{Function, Program, Structs, Table};
 use sqlite_items::Items;
 use std::alloc::Global;
@@ -75,13 +76,25 @@ fn translate<'a>(
     Ok(())
 }
 
+/// The value of a constant of type `int`.
+fn int_value(number: Num) -> u32
+    ensures { result ≡ spec.int_value number }
+{
+    match number.kind() {
+        Kind::I32 => number.pattern() as u32,
+        _ => 0,
+    }
+}
+
 fn value_of(class: TokenClass) -> u32
     ensures { result ≡ spec.value_of class }
 {
     match class {
-        TokenClass::Constant(value) => value,
+        TokenClass::Constant(number) => int_value(number),
         TokenClass::Word => 0,
         TokenClass::Keyword(_) => 0,
+        TokenClass::Character(_) => 0,
+        TokenClass::Literal => 0,
         TokenClass::Punct(_) => 0,
     }
 }
