@@ -5,3 +5,4 @@ pub mod StatementRules
 pub mod ActRules
 pub mod ExternalRules
 pub mod Shown
+pub mod Made

@@ -4,6 +4,7 @@
 mod act_actions;
 mod declaration_actions;
 mod declaration_parts;
+mod each_action;
 mod external_actions;
 mod external_parts;
 mod parts;
