@@ -173,8 +173,8 @@ fn is_if(class: TokenClass) -> bool
     }
 }
 
-fn is_else(class: TokenClass) -> bool
-    ensures { result ≡ spec.is_else class }
+fn is_else(class: &TokenClass) -> bool
+    ensures { result ≡ spec.is_else class.now }
 {
     match class {
         TokenClass::Keyword(Keyword::Else) => true,
@@ -183,13 +183,13 @@ fn is_else(class: TokenClass) -> bool
 }
 
 /// What a token of this text is to the grammar, where these tokens follow it.
-pub fn class_before(text: &[u8], class: TokenClass, following: &[Token]) -> Class
-    ensures { result ≡ spec.class_before text.now class following.now }
+pub fn class_before(text: &[u8], class: &TokenClass, following: &[Token]) -> Class
+    ensures { result ≡ spec.class_before text.now class.now following.now }
 {
     if is_else(class) && begins_with_if(following) {
         Class::ElseIf
     } else {
-        class_of(text, class)
+        class_of(text, *class)
     }
 }
 

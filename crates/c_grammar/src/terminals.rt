@@ -64,7 +64,7 @@ pub fn terminals(
     let mut terminals = Vec::new(alloc);
     let mut left = tokens;
     'tokens: while let Some((token, rest)) = left.split_first() {
-        let class = class_before(text(bytes, token), token.class, rest);
+        let class = class_before(text(bytes, token), &token.class, rest);
         let name = number(bytes, token, &mut names)?;
         terminals.push(Terminal { class, name })?;
         left = rest;
