@@ -3,6 +3,9 @@ use rvt_num::{Kind, Num};
 use std::test::Fail;
 
 fn begins(text: &[u8], class: TokenClass, length: usize) -> bool {
+    if text.is_empty() {
+        return false;
+    }
     match first_token(text) {
         Ok(front) => front.class == class && front.length == length,
         Err(_) => false,
@@ -10,6 +13,9 @@ fn begins(text: &[u8], class: TokenClass, length: usize) -> bool {
 }
 
 fn begins_none(text: &[u8], why: NoToken) -> bool {
+    if text.is_empty() {
+        return false;
+    }
     match first_token(text) {
         Ok(_) => false,
         Err(other) => other == why,
