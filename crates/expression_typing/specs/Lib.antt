@@ -1,0 +1,5 @@
+pub mod Entities
+pub mod Limits
+pub mod Operands
+pub mod Outcomes
+pub mod Progress
