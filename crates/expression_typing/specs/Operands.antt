@@ -1,5 +1,5 @@
 -- What an expression becomes when it is typed, and the conversions of it as an operand (C 6.3.2.1).
-use Rattle.std.specs.Prelude.{ℕ, ◌+◌, nat_lt, nat_le, Bool, false, ◌&&◌, if◌then◌else◌, Option, Some, None, slice_get}
+use Rattle.std.specs.Prelude.{ℕ, ◌+◌, nat_lt, nat_le, List, Bool, true, false, ◌&&◌, if◌then◌else◌, Option, Some, None, slice_get}
 use Rattle.rvt_num.specs.declared.kinds.Kind.{Kind}
 use Rattle.rvt_tree.specs.declared.places.Place.{Place}
 use Rattle.rvt_tree.specs.declared.types.Pointee.{Pointee}
@@ -9,10 +9,10 @@ use Rattle.rvt_tree.specs.declared.expressions.Variable.TheVariants as V
 use Rattle.rvt_tree.specs.Syntax.{LvalueExpression, Expression, Arguments}
 use Rattle.rvt_tree.specs.Syntax as t
 use Rattle.c_types.specs.Layout.{Shape, AWord, APointer, AnArray, AStruct}
-use Rattle.expression_typing.specs.Entities.{Scope}
+use Rattle.expression_typing.specs.Entities.{Scope, Structure, cells_of}
 use Rattle.expression_typing.specs.Progress.{Notes, Local, with_taken, with_object, is_taken}
 use Rattle.expression_typing.specs.Limits.{most_objects, most_cells_of_objects}
-use Rattle.expression_typing.specs.Outcomes.{beyond_a_limit, not_in_profile, Outcome, Made, Broken, Checking, give, broken, and_then, noting}
+use Rattle.expression_typing.specs.Outcomes.{beyond_a_limit, wrong_type, not_in_profile, Outcome, Made, Broken, Checking, give, broken, and_then, noting, wanted}
 
 -- what an expression is
 pub data Operand : Type 0 where
@@ -40,6 +40,28 @@ pointee_of (AnArray item count) = None
 abbrev pub shape_of_pointee : Pointee → Shape
 shape_of_pointee (P.Word kind) = AWord kind
 shape_of_pointee (P.Struct number) = AStruct number
+
+-- what a pointer points to is complete (C 6.2.5): how many cells it has
+abbrev pub pointee_cells : List Structure → Place → Pointee → Checking ℕ
+pointee_cells structs at pointee = wanted wrong_type at (cells_of structs (shape_of_pointee pointee))
+
+-- an operand as a value of no type in particular
+abbrev pub value_of : Operand → Expression
+value_of (a_place shape constant lvalue) = t.value_at lvalue
+value_of (an_integer kind value zero_token) = value
+value_of (a_pointer pointee to_constant value) = value
+value_of a_null = t.null_pointer
+value_of (a_void function arguments) = t.call function arguments
+
+-- `NULL` is a pointer, to no type of its own
+abbrev pub is_pointer : Operand → Bool
+is_pointer (a_pointer pointee to_constant value) = true
+is_pointer a_null = true
+is_pointer _ = false
+
+-- an operation that C has for two pointers, and the profile has not
+abbrev pub two_pointers : Place → Operand → Operand → Checking Operand
+two_pointers at x y = broken (if is_pointer x && is_pointer y then not_in_profile else wrong_type) at
 
 -- ---- addresses that are taken
 

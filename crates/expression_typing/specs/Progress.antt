@@ -45,6 +45,14 @@ with_call call notes = record { locals = notes.locals; calls = notes.calls ++ ca
 abbrev pub with_taken : Taken → Notes → Notes
 with_taken taken notes = record { locals = notes.locals; calls = notes.calls; taken = notes.taken ++ taken ∷ []; loops = notes.loops; objects = notes.objects; cells = notes.cells }
 
+-- one more local or parameter
+abbrev pub with_local : Local → Notes → Notes
+with_local local notes = record { locals = notes.locals ++ local ∷ []; calls = notes.calls; taken = notes.taken; loops = notes.loops; objects = notes.objects; cells = notes.cells }
+
+-- one more loop
+abbrev pub with_loop : Notes → Notes
+with_loop notes = record { locals = notes.locals; calls = notes.calls; taken = notes.taken; loops = suc notes.loops; objects = notes.objects; cells = notes.cells }
+
 -- one more object, with its cells
 abbrev pub with_object : ℕ → Notes → Notes
 with_object cells notes = record { locals = notes.locals; calls = notes.calls; taken = notes.taken; loops = notes.loops; objects = suc notes.objects; cells = notes.cells + cells }
