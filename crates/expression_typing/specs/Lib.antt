@@ -20,3 +20,9 @@ pub mod RelationalOperators
 pub mod EqualityOperators
 pub mod LogicalOperators
 pub mod ConditionalOperator
+pub mod ConstantExpressions
+pub mod Assignment
+pub mod Operators
+pub mod Expressions
+pub mod Actions
+pub mod BuiltIn

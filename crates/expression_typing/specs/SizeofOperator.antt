@@ -1,5 +1,6 @@
 -- `sizeof` (C 6.5.3.4), in bytes.
-use Rattle.std.specs.Prelude.{ℕ, ◌*◌, nat_le, List, [], ◌∷◌, any, false, if◌then◌else◌, Option, Some, None, option_map, pos}
+use Rattle.std.specs.Prelude.{ℕ, ◌*◌, nat_le, List, [], ◌∷◌, false, if◌then◌else◌, Option, Some, None, option_map, pos}
+use Rattle.std.specs.List.{list_any}
 use Rattle.rvt_num.specs.declared.kinds.Kind.{Kind}
 use Rattle.rvt_num.specs.declared.kinds.Kind.TheVariants.{Bool as BoolKind, I8, U8, I16, U16, I32, U32, I64, U64}
 use Rattle.rvt_tree.specs.declared.places.Place.{Place}
@@ -68,5 +69,5 @@ type_size structs at (Some item) lengths = and_then (wanted incomplete_type at (
 
 abbrev pub size_of_type : List Structure → Place → WrittenType → Checking Operand
 size_of_type structs at written =
-    if any is_below_1 written.lengths then broken wrong_type at
+    if list_any is_below_1 written.lengths then broken wrong_type at
     else type_size structs at (as_pointer written.type.named) written.lengths

@@ -1,5 +1,6 @@
 -- Which type a base, a pointer and dimensions name (C 6.7.2, 6.7.3, 6.7.6, 6.7.7, 6.7.8).
-use Rattle.std.specs.Prelude.{ℕ, List, [], ◌∷◌, any, Bool, true, false, ◌||◌, if◌then◌else◌, Option, Some, None, option_map, ℤ, pos, int_lt, unsigned_abs}
+use Rattle.std.specs.Prelude.{ℕ, List, [], ◌∷◌, Bool, true, false, ◌||◌, if◌then◌else◌, Option, Some, None, option_map, ℤ, pos, int_lt, unsigned_abs}
+use Rattle.std.specs.List.{list_any}
 use Rattle.rvt_num.specs.declared.kinds.Kind.{Kind}
 use Rattle.rvt_num.specs.declared.kinds.Kind.TheVariants.{Bool as BoolKind, I8, U8, I16, U16, I32, U32, I64, U64}
 use Rattle.rvt_tree.specs.declared.places.Place.{Place}
@@ -44,18 +45,18 @@ is_unsigned _ = false
 
 -- the second kind if `unsigned` stands among the words
 abbrev pub by_sign : List TypeWord → Kind → Kind → Kind
-by_sign words plain other = if any is_unsigned words then other else plain
+by_sign words plain other = if list_any is_unsigned words then other else plain
 
 abbrev pub kind_of_words : List TypeWord → Kind
 kind_of_words words =
-    if any is_bool words then BoolKind
-    else if any is_char words then by_sign words I8 U8
-    else if any is_short words then by_sign words I16 U16
-    else if any is_long words then by_sign words I64 U64
+    if list_any is_bool words then BoolKind
+    else if list_any is_char words then by_sign words I8 U8
+    else if list_any is_short words then by_sign words I16 U16
+    else if list_any is_long words then by_sign words I64 U64
     else by_sign words I32 U32
 
 abbrev pub type_of_words : List TypeWord → NamedType
-type_of_words words = if any is_void words then no_value else a_type (AWord (kind_of_words words))
+type_of_words words = if list_any is_void words then no_value else a_type (AWord (kind_of_words words))
 
 -- ---- bases
 
