@@ -160,6 +160,9 @@ of_trap = refl
 not_evaluated : constantly (binary I.Both 3 (number 0 1) (binary I.Divide 8 (number 1 6) (number 0 10))) ≡ becomes (an_i32 0)
 not_evaluated = refl
 
+not_evaluated_after : constantly (binary I.Either 3 (number 2 1) (binary I.Divide 8 (number 1 6) (number 0 10))) ≡ becomes (an_i32 1)
+not_evaluated_after = refl
+
 no_constant : constantly (binary I.Both 3 (number 0 1) (name (codes "x") 6)) ≡ breaks constant_wanted 1
 no_constant = refl
 
