@@ -1,6 +1,5 @@
 -- What the worked examples share: some declarations, and short ways to write trees.
-use Rattle.std.proofs.Common.{◌≡◌, ℕ, List, [], ◌∷◌, ◌++◌, Option, Some, None, Bool, true, false, pos, codes}
-use Rattle.rvt_num.specs.declared.kinds.Kind.{Kind}
+use Rattle.std.proofs.Common.{ℕ, List, [], ◌∷◌, ◌++◌, Option, Some, None, true, false, pos, codes}
 use Rattle.rvt_num.specs.declared.kinds.Kind.TheVariants.{U8, I32, U32, I64}
 use Rattle.rvt_tree.specs.declared.places.Place.{Place}
 use Rattle.rvt_tree.specs.declared.types.Pointee.TheVariants as P
@@ -15,13 +14,13 @@ use Rattle.c_syntax.specs.declared.bases.TypeWord.{TypeWord}
 use Rattle.c_syntax.specs.declared.bases.Word.{Word}
 use Rattle.c_syntax.specs.declared.operators.Infix.{Infix}
 use Rattle.c_syntax.specs.declared.operators.Prefix.{Prefix}
-use Rattle.c_syntax.specs.Syntax.{Expression, Expression as e, Arguments, Arguments as a, Suffixes as s, Casts as c, TypeName, type_name, Dimensions, Dimensions as d, sized, Action}
-use Rattle.expression_typing.specs.Entities.{Entity, a_local, an_object, a_function, a_constant, a_typedef, a_type, Binding, struct_tag, enum_tag, Tag, Field, Structure, Scope}
+use Rattle.c_syntax.specs.Syntax.{Expression, Expression as e, Arguments, Arguments as a, Suffixes as s, Casts as c, TypeName, type_name, Dimensions as d, sized, Action}
+use Rattle.expression_typing.specs.Entities.{Entity, a_local, an_object, a_function, a_constant, a_typedef, a_type, Binding, struct_tag, enum_tag, Structure, Scope}
 use Rattle.expression_typing.specs.Progress.{Local, Notes}
 use Rattle.expression_typing.specs.Outcomes.{Cause, Outcome, Made, Broken}
 use Rattle.expression_typing.specs.Operands.{Operand}
 use Rattle.expression_typing.specs.BuiltIn.{built_in_names}
-use Rattle.expression_typing.specs.Expressions.{operand, constant}
+use Rattle.expression_typing.specs.Expressions.{operand}
 use Rattle.expression_typing.specs.Actions.{typed_action}
 
 -- ---- places, by their columns

@@ -1,15 +1,11 @@
 -- Acts, and what is noted: what each becomes, or the rule that it breaks and where.
-use Rattle.std.proofs.Common.{◌≡◌, ℕ, List, [], ◌∷◌, Option, Some, None, true, false, pos, refl, codes, replicate}
-use Rattle.rvt_num.specs.declared.kinds.Kind.TheVariants.{U8, I32, U32, I64}
+use Rattle.std.proofs.Common.{◌≡◌, ℕ, List, [], ◌∷◌, Option, Some, None, refl, codes}
+use Rattle.rvt_num.specs.declared.kinds.Kind.TheVariants.{U8, I32, U32}
 use Rattle.rvt_num.specs.declared.operations.BinOp.TheVariants as B
-use Rattle.rvt_tree.specs.declared.places.Place.{Place}
-use Rattle.rvt_tree.specs.declared.types.Pointee.TheVariants as P
 use Rattle.rvt_tree.specs.declared.expressions.Variable.{Variable}
 use Rattle.rvt_tree.specs.declared.expressions.Variable.TheVariants as V
 use Rattle.rvt_tree.specs.declared.statements.Bump.TheVariants.{UpAfter, DownBefore}
 use Rattle.rvt_tree.specs.Syntax.{Expression as t, Arguments as ts, Action as act_form}
-use Rattle.rvt_tree.specs.Syntax as tree
-use Rattle.c_types.specs.Layout.{AStruct}
 use Rattle.c_syntax.specs.Syntax.{Expression, Expression as e, Action as c}
 use Rattle.c_syntax.specs.declared.operators.Infix.TheVariants as I
 use Rattle.c_syntax.specs.declared.operators.Prefix.TheVariants as F
@@ -17,10 +13,9 @@ use Rattle.c_syntax.specs.declared.operators.Setting.{Setting}
 use Rattle.c_syntax.specs.declared.operators.Setting.TheVariants as S
 use Rattle.c_syntax.specs.declared.operators.Step.TheVariants.{Up, Down}
 use Rattle.expression_typing.specs.Progress.{Notes, Call, Taken}
-use Rattle.expression_typing.specs.Outcomes.{unknown_name, wrong_type, write_to_constant, beyond_a_limit, not_in_profile, Outcome, Made, Broken}
-use Rattle.expression_typing.specs.Operands.{Operand}
+use Rattle.expression_typing.specs.Outcomes.{unknown_name, wrong_type, write_to_constant, beyond_a_limit, not_in_profile, Broken}
 use Rattle.expression_typing.specs.Expressions.{operand}
-use Rattle.expression_typing.proofs.Scene.{Verdict, column, scene, start, becomes, breaks, verdict, act, notes_after, name, number, binary, unary, call, index, dot, arrow, variable, value, int, declared_at}
+use Rattle.expression_typing.proofs.Scene.{column, scene, start, becomes, breaks, verdict, act, notes_after, name, number, binary, unary, call, index, dot, variable, value, int, declared_at}
 
 abbrev set : Setting → ℕ → Expression → Expression → c
 set setting n left right = c.assign setting (column n) left right

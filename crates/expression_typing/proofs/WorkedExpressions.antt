@@ -1,19 +1,17 @@
 -- Expressions: what each becomes, or the rule that it breaks and where.
-use Rattle.std.proofs.Common.{◌≡◌, List, [], ◌∷◌, Some, None, Bool, true, false, pos, refl, codes}
-use Rattle.rvt_num.specs.declared.kinds.Kind.TheVariants.{Bool as BoolKind, I8, U8, I32, U32, I64, U64}
+use Rattle.std.proofs.Common.{◌≡◌, [], ◌∷◌, true, false, pos, refl, codes}
+use Rattle.rvt_num.specs.declared.kinds.Kind.TheVariants.{I32, U32, I64, U64}
 use Rattle.rvt_num.specs.declared.operations.BinOp.TheVariants as B
 use Rattle.rvt_tree.specs.declared.types.Pointee.TheVariants as P
-use Rattle.rvt_tree.specs.declared.expressions.Variable.TheVariants as V
 use Rattle.rvt_tree.specs.Syntax.{Expression as t, Arguments as ts}
 use Rattle.rvt_tree.specs.Syntax as tree
-use Rattle.c_types.specs.Layout.{AWord, APointer, AnArray, AStruct}
 use Rattle.c_syntax.specs.Syntax.{Expression as e, Suffixes as s}
 use Rattle.c_syntax.specs.declared.bases.TypeWord.TheVariants as T
 use Rattle.c_syntax.specs.declared.operators.Infix.TheVariants as I
 use Rattle.c_syntax.specs.declared.operators.Prefix.TheVariants as F
 use Rattle.expression_typing.specs.Outcomes.{unknown_name, wrong_type, wrong_number_of_arguments, not_in_profile}
-use Rattle.expression_typing.specs.Operands.{a_place, an_integer, an_int_value, a_pointer, a_null, a_void}
-use Rattle.expression_typing.proofs.Scene.{column, scene, start, becomes, breaks, expression, name, number, binary, unary, call, index, dot, arrow, cast, words, pointer_words, variable, value, int}
+use Rattle.expression_typing.specs.Operands.{an_integer, an_int_value, a_pointer}
+use Rattle.expression_typing.proofs.Scene.{column, becomes, breaks, expression, name, number, binary, unary, call, index, dot, arrow, cast, words, pointer_words, variable, value, int}
 
 -- ---- names and constants (C 6.5.1)
 

@@ -1,23 +1,20 @@
 -- `sizeof`, constant expressions and the names of types: what each becomes, or the rule that it breaks and where.
 use Rattle.std.proofs.Common.{◌≡◌, ℕ, List, [], ◌∷◌, Some, None, true, false, pos, negsuc, refl, codes}
 use Rattle.rvt_num.specs.Number.{Number}
-use Rattle.rvt_num.specs.declared.kinds.Kind.TheVariants.{Bool as BoolKind, I8, U8, I16, U16, I32, U32, I64, U64}
-use Rattle.rvt_tree.specs.Syntax.{Expression as t}
-use Rattle.c_types.specs.Layout.{AWord, APointer, AnArray, AStruct}
+use Rattle.rvt_num.specs.declared.kinds.Kind.TheVariants.{I8, U16, I32, U32, U64}
+use Rattle.c_types.specs.Layout.{AWord}
 use Rattle.c_syntax.specs.Syntax.{Expression, Expression as e, TypeName, type_name, Dimensions as d, sized}
 use Rattle.c_syntax.specs.declared.bases.Base.{Base}
-use Rattle.c_syntax.specs.declared.bases.Specifier.{Specifier}
 use Rattle.c_syntax.specs.declared.bases.Specifier.TheVariants as S
 use Rattle.c_syntax.specs.declared.bases.TypeWord.TheVariants as T
 use Rattle.c_syntax.specs.declared.operators.Infix.TheVariants as I
 use Rattle.c_syntax.specs.declared.operators.Prefix.TheVariants as F
-use Rattle.expression_typing.specs.Entities.{no_value, a_type, QualifiedType}
+use Rattle.expression_typing.specs.Entities.{a_type, QualifiedType}
 use Rattle.expression_typing.specs.Outcomes.{incomplete_type, too_many_cells, unknown_name, wrong_type, constant_wanted, not_in_profile}
-use Rattle.expression_typing.specs.Operands.{an_int_value}
 use Rattle.expression_typing.specs.SizeofOperator.{size_value}
 use Rattle.expression_typing.specs.Expressions.{constant, constant_of_kind, lengths}
 use Rattle.expression_typing.specs.TypeNames.{base_type, type_of_words}
-use Rattle.expression_typing.proofs.Scene.{Verdict, column, scene, start, becomes, breaks, verdict, expression, word, name, number, binary, unary, call, index, cast, base, words, pointer_words, array_words}
+use Rattle.expression_typing.proofs.Scene.{Verdict, column, scene, start, becomes, breaks, verdict, expression, word, name, number, binary, unary, call, cast, base, words, pointer_words, array_words}
 
 abbrev size_of : ℕ → Expression → Expression
 size_of n x = e.sizeof_expression (column n) x

@@ -1,5 +1,5 @@
 -- `a + b`, `a - b` (C 6.5.6).
-use Rattle.std.specs.Prelude.{List, ◌&&◌, if◌then◌else◌}
+use Rattle.std.specs.Prelude.{List}
 use Rattle.rvt_num.specs.declared.operations.BinOp.TheVariants as B
 use Rattle.rvt_tree.specs.declared.places.Place.{Place}
 use Rattle.rvt_tree.specs.Syntax.{pointer_plus, plus_pointer, pointer_minus}

@@ -1,5 +1,5 @@
 -- Assignment, compound assignment, `++` and `--` (C 6.5.16, 6.5.2.4, 6.5.3.1), which are acts: they give no value.
-use Rattle.std.specs.Prelude.{List, Bool, true, if◌then◌else◌}
+use Rattle.std.specs.Prelude.{List, true, if◌then◌else◌}
 use Rattle.rvt_num.specs.Kinds.{promoted_kind, common_kind}
 use Rattle.rvt_num.specs.Operations.{is_shift}
 use Rattle.rvt_num.specs.declared.kinds.Kind.{Kind}

@@ -1,7 +1,6 @@
 -- The names that are declared before the first line of a file (C 7.18 to 7.20): types, constants, and `NULL`.
-use Rattle.std.specs.Prelude.{ℕ, ◌-◌, ◌^◌, List, [], ◌∷◌, ◌++◌, false, codes, ℤ, pos, neg_ℤ, ◌-ℤ◌}
-use Rattle.rvt_num.specs.Number.{Number}
-use Rattle.rvt_num.specs.Kinds.{width, least, greatest, promoted_kind}
+use Rattle.std.specs.Prelude.{ℕ, List, [], ◌∷◌, ◌++◌, false, codes, ℤ, pos}
+use Rattle.rvt_num.specs.Kinds.{least, greatest, promoted_kind}
 use Rattle.rvt_num.specs.declared.kinds.Kind.{Kind}
 use Rattle.rvt_num.specs.declared.kinds.Kind.TheVariants.{Bool as BoolKind, I8, U8, I16, U16, I32, U32, I64, U64}
 use Rattle.c_types.specs.Layout.{AWord}

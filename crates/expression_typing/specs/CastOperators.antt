@@ -1,5 +1,5 @@
 -- `(T) e` (C 6.5.4).
-use Rattle.std.specs.Prelude.{List, [], Bool, true, false, ◌||◌, if◌then◌else◌}
+use Rattle.std.specs.Prelude.{[], Bool, true, false, ◌||◌, if◌then◌else◌}
 use Rattle.rvt_tree.specs.declared.places.Place.{Place}
 use Rattle.rvt_tree.specs.Syntax.{cast}
 use Rattle.c_types.specs.Layout.{AWord, APointer}

@@ -1,9 +1,8 @@
 -- What names stand for (C 6.2.1, 6.2.3).
-use Rattle.std.specs.Prelude.{ℕ, ◌*◌, List, [], ◌∷◌, Option, Some, None, option_map, option_and_then, Bool, true, false, if◌then◌else◌, slice_get}
+use Rattle.std.specs.Prelude.{ℕ, ◌*◌, List, [], ◌∷◌, Option, Some, None, option_map, option_and_then, Bool, false, if◌then◌else◌, slice_get}
 use Rattle.std.specs.Str.{bytes_eq}
 use Rattle.rvt_num.specs.Number.{Number}
 use Rattle.rvt_num.specs.declared.kinds.Kind.{Kind}
-use Rattle.rvt_tree.specs.declared.places.Place.{Place}
 use Rattle.c_types.specs.Layout.{Shape, AWord, APointer, AnArray, AStruct}
 
 -- what a base, a pointer and a typedef name can name: nothing, a type that values have, or a pointer that has no place in the profile

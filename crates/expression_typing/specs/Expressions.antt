@@ -1,11 +1,11 @@
 -- What an expression becomes (C 6.5): operands in their order and before their operator.
-use Rattle.std.specs.Prelude.{List, [], ◌∷◌, Option, Some, None}
+use Rattle.std.specs.Prelude.{List, [], ◌∷◌, Some, None}
 use Rattle.rvt_num.specs.Number.{Number}
 use Rattle.rvt_num.specs.Operations.{converted}
 use Rattle.rvt_num.specs.declared.kinds.Kind.{Kind}
 use Rattle.c_types.specs.Layout.{Shape}
 use Rattle.rvt_tree.specs.Syntax.{no_arguments, argument, Expression as TypedExpression, Arguments as TypedArguments}
-use Rattle.c_syntax.specs.Syntax.{Expression, Expression as e, Arguments, Arguments as a, Suffixes, Suffixes as s, Casts, Casts as c, TypeName, type_name, Dimensions, Dimensions as d, Dimension, unsized, sized}
+use Rattle.c_syntax.specs.Syntax.{Expression, Expression as e, Arguments, Arguments as a, Suffixes, Suffixes as s, Casts, Casts as c, TypeName, type_name, Dimensions, Dimensions as d, unsized, sized}
 use Rattle.expression_typing.specs.Entities.{Scope, unevaluated, in_scope}
 use Rattle.expression_typing.specs.Outcomes.{Checking, give, and_then}
 use Rattle.expression_typing.specs.Operands.{Operand, Ends, converted_operand}

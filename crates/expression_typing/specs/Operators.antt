@@ -1,6 +1,5 @@
 -- Which rule each operator has, and which operation of the typed tree it is.
 use Rattle.std.specs.Prelude.{List}
-use Rattle.rvt_num.specs.declared.operations.BinOp.{BinOp}
 use Rattle.rvt_num.specs.declared.operations.BinOp.TheVariants as B
 use Rattle.rvt_tree.specs.declared.places.Place.{Place}
 use Rattle.rvt_tree.specs.declared.statements.Bump.{Bump}

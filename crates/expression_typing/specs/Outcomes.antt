@@ -1,5 +1,5 @@
 -- Going through a file: the phrases in order, until one breaks a rule.
-use Rattle.std.specs.Prelude.{ℕ, List, [], ◌∷◌, Option, Some, None}
+use Rattle.std.specs.Prelude.{ℕ, List, [], Option, Some, None}
 use Rattle.rvt_tree.specs.declared.places.Place.{Place}
 use Rattle.expression_typing.specs.Progress.{Notes}
 

@@ -1,5 +1,5 @@
 -- Which type a base, a pointer and dimensions name (C 6.7.2, 6.7.3, 6.7.6, 6.7.7, 6.7.8).
-use Rattle.std.specs.Prelude.{ℕ, List, [], ◌∷◌, Bool, true, false, ◌||◌, if◌then◌else◌, Option, Some, None, option_map, ℤ, pos, int_lt, unsigned_abs}
+use Rattle.std.specs.Prelude.{List, [], ◌∷◌, Bool, true, false, ◌||◌, if◌then◌else◌, Option, Some, None, option_map, ℤ, pos, int_lt, unsigned_abs}
 use Rattle.std.specs.List.{list_any}
 use Rattle.rvt_num.specs.declared.kinds.Kind.{Kind}
 use Rattle.rvt_num.specs.declared.kinds.Kind.TheVariants.{Bool as BoolKind, I8, U8, I16, U16, I32, U32, I64, U64}
