@@ -1,0 +1,13 @@
+pub mod Blocks
+pub mod DeclaratorTypes
+pub mod Enumerations
+pub mod FileScope
+pub mod FunctionDeclarators
+pub mod FunctionDefinitions
+pub mod FunctionNotes
+pub mod Initializers
+pub mod LocalDeclarations
+pub mod LocalObjects
+pub mod Programs
+pub mod Statements
+pub mod Structs
