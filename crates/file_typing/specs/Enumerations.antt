@@ -5,7 +5,7 @@ use Rattle.rvt_num.specs.declared.kinds.Kind.TheVariants.{I32}
 use Rattle.c_types.specs.Layout.{AWord}
 use Rattle.c_syntax.specs.Syntax as s
 use Rattle.c_syntax.specs.declared.bases.Word.{Word}
-use Rattle.expression_typing.specs.Expressions.{constant_expression}
+use Rattle.expression_typing.specs.Expressions.{constant}
 use Rattle.expression_typing.specs.Entities.{a_constant, a_type, QualifiedType, enum_tag, tag_in}
 use Rattle.expression_typing.specs.Outcomes.{Checking, give, broken, and_then, declared_twice, wrong_type}
 use Rattle.file_typing.specs.Blocks.{unless_declared}
@@ -15,7 +15,7 @@ use Rattle.file_typing.specs.Structs.{Based}
 -- a constant without a value of its own is one more than the one before it
 abbrev pub value_or : FileScope → ℤ → Option s.Expression → Checking ℤ
 value_or file next None = give next
-value_or file next (Some e) = and_then (constant_expression (scope_of_file file) e) (λ n. give n.value)
+value_or file next (Some e) = and_then (constant (scope_of_file file) e) (λ n. give n.value)
 
 abbrev pub is_int : Word → ℤ → Checking (Unit {0})
 is_int word value = if int_lt value (least I32) || int_lt (greatest I32) value then broken wrong_type word.place else give tt

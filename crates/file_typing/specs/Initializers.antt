@@ -10,9 +10,8 @@ use Rattle.c_types.specs.Layout.{Shape, AWord, APointer, AnArray, AStruct}
 use Rattle.c_syntax.specs.Syntax as s
 use Rattle.expression_typing.specs.Entities.{Scope, Structure, Field, cells_of, fields_of}
 use Rattle.expression_typing.specs.Outcomes.{Checking, give, broken, and_then, wanted, wrong_type, constant_wanted}
-use Rattle.expression_typing.specs.Expressions.{operand}
+use Rattle.expression_typing.specs.Expressions.{value_as}
 use Rattle.expression_typing.specs.FirstTokens.{first_token}
-use Rattle.expression_typing.specs.Conversions.{converted_to}
 use Rattle.expression_typing.specs.ConstantExpressions.{constant_of}
 
 -- the member of a number: an element of an array, a field of a struct
@@ -52,10 +51,9 @@ module _ (scope : Scope) (asked : Asked) where
   -- a value without braces, converted as by assignment
   abbrev pub typed_value : Shape → s.Expression → Checking t.Initializer
   typed_value shape e =
-      and_then (operand scope e) (λ value.
-      and_then (converted_to (first_token e) shape value) (λ value.
+      and_then (value_as scope shape e) (λ value.
       and_then (asked (first_token e) value) (λ _.
-      give (t.initial_value value))))
+      give (t.initial_value value)))
 
   -- an integer in braces: one value, without more braces
   abbrev pub typed_alone : Kind → s.Initializers → Checking t.Initializers

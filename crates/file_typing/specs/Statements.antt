@@ -3,7 +3,7 @@ use Rattle.std.specs.Prelude.{ℕ, List, [], ◌∷◌, ◌++◌, codes, Bool, t
 use Rattle.std.specs.List.{list_any}
 use Rattle.rvt_num.specs.Number.{Number}
 use Rattle.rvt_num.specs.Kinds.{promoted_kind}
-use Rattle.rvt_num.specs.Operations.{int_eq, converted}
+use Rattle.rvt_num.specs.Operations.{int_eq}
 use Rattle.rvt_num.specs.declared.kinds.Kind.{Kind}
 use Rattle.rvt_tree.specs.declared.places.Place.{Place}
 use Rattle.rvt_tree.specs.declared.statements.Label.{Label}
@@ -14,9 +14,9 @@ use Rattle.c_syntax.specs.Syntax as s
 use Rattle.expression_typing.specs.Outcomes.{Checking, give, broken, and_then, declared_twice, wrong_type, not_in_profile}
 use Rattle.expression_typing.specs.Operands.{Operand, a_place, an_integer, a_pointer, a_null, a_void}
 use Rattle.expression_typing.specs.FirstTokens.{first_token}
-use Rattle.expression_typing.specs.Conversions.{promoted, converted_to, tested}
-use Rattle.expression_typing.specs.Expressions.{operand, constant_expression}
-use Rattle.expression_typing.specs.Actions.{acted}
+use Rattle.expression_typing.specs.Conversions.{promoted, converted_to}
+use Rattle.expression_typing.specs.Expressions.{operand, condition, constant_of_kind}
+use Rattle.expression_typing.specs.Actions.{typed_action}
 use Rattle.file_typing.specs.Blocks.{Block, scope_of, inside, inside_loop, inside_switch}
 use Rattle.file_typing.specs.FunctionNotes.{next_loop}
 use Rattle.file_typing.specs.LocalDeclarations.{Declared, typed_declaration}
@@ -29,10 +29,6 @@ statements_before (s ∷ rest) others = t.statement s (statements_before rest ot
 
 abbrev pub statements_of : List t.Statement → t.Statements
 statements_of list = statements_before list t.no_statements
-
--- a condition: an integer or a pointer (C 6.8.4.1, 6.8.5)
-abbrev pub condition : Block → s.Expression → Checking t.Expression
-condition block e = and_then (operand (scope_of block) e) (tested (first_token e))
 
 -- ---- jumps (C 6.8.6)
 
@@ -58,7 +54,7 @@ returned_with at first (Some kind) value = and_then (converted_to first (AWord k
 abbrev pub typed_actions : Block → List s.Action → Checking (List t.Action)
 typed_actions block [] = give []
 typed_actions block (action ∷ rest) =
-    and_then (acted (scope_of block) action) (λ first.
+    and_then (typed_action (scope_of block) action) (λ first.
     and_then (typed_actions block rest) (λ others.
     give (first ∷ others)))
 
@@ -76,7 +72,7 @@ for_start block (s.starts_with_actions actions) =
 -- a condition that is left out holds
 abbrev pub for_test : Block → Option s.Expression → Checking (Option t.Expression)
 for_test block None = give None
-for_test block (Some e) = and_then (condition block e) (λ test. give (Some test))
+for_test block (Some e) = and_then (condition (scope_of block) e) (λ test. give (Some test))
 
 -- ---- `switch` (C 6.8.4.2)
 
@@ -105,7 +101,7 @@ unless_labelled at word before label = if list_any (same_label label) before the
 -- a label's value is converted to the kind of the `switch`
 abbrev pub typed_label : Block → Kind → List Label → s.SwitchLabel → Checking Label
 typed_label block kind before (s.case_label at e) =
-    and_then (constant_expression (scope_of block) e) (λ n. unless_labelled at (codes "case") before (Case (converted kind n)))
+    and_then (constant_of_kind kind (scope_of block) e) (λ n. unless_labelled at (codes "case") before (Case n))
 typed_label block kind before (s.default_label at) = unless_labelled at (codes "default") before Default
 
 abbrev pub typed_labels : Block → Kind → List Label → List s.SwitchLabel → Checking (List Label)
@@ -161,29 +157,29 @@ abbrev mutual
   pub typed_statement : Block → s.Statement → Checking t.Statement
   typed_statement block (s.compound at items) = and_then (typed_items (inside block) items) (λ body. give (t.compound body))
   typed_statement block (s.null_statement at) = give t.null_statement
-  typed_statement block (s.action action) = and_then (acted (scope_of block) action) (λ action. give (t.action action))
+  typed_statement block (s.action action) = and_then (typed_action (scope_of block) action) (λ action. give (t.action action))
   typed_statement block (s.break_statement at) = broken_off at block
   typed_statement block (s.continue_statement at) = continued at block
   typed_statement block (s.return_statement at) = returned at block.result
   typed_statement block (s.return_value at e) = and_then (operand (scope_of block) e) (returned_with at (first_token e) block.result)
   typed_statement block (s.if_statement at e first) =
-      and_then (condition block e) (λ test.
+      and_then (condition (scope_of block) e) (λ test.
       and_then (typed_statement block first) (λ first.
       give (t.if_statement test first)))
   typed_statement block (s.if_else at e first second) =
-      and_then (condition block e) (λ test.
+      and_then (condition (scope_of block) e) (λ test.
       and_then (typed_statement block first) (λ first.
       and_then (typed_statement block second) (λ second.
       give (t.if_else test first second))))
   typed_statement block (s.while_loop at e body) =
       and_then next_loop (λ number.
-      and_then (condition block e) (λ test.
+      and_then (condition (scope_of block) e) (λ test.
       and_then (typed_statement (inside_loop block) body) (λ body.
       give (t.while_loop number test body))))
   typed_statement block (s.do_loop at body e) =
       and_then next_loop (λ number.
       and_then (typed_statement (inside_loop block) body) (λ body.
-      and_then (condition block e) (λ test.
+      and_then (condition (scope_of block) e) (λ test.
       give (t.do_loop number body test))))
   typed_statement block (s.for_loop at start e last body) =
       and_then next_loop (λ number.
