@@ -1,0 +1,4 @@
+pub mod Written
+pub mod WorkedNames
+pub mod WorkedTypes
+pub mod WorkedLimits
