@@ -2,3 +2,4 @@ pub mod Written
 pub mod WorkedNames
 pub mod WorkedTypes
 pub mod WorkedLimits
+pub mod WorkedPrograms

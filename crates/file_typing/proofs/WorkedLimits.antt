@@ -1,5 +1,5 @@
 -- Small files, each of which breaks another rule first, computed: sizes, constants, the profile, and what is sought at the end.
-use Rattle.std.proofs.Common.{◌≡◌, [], ◌∷◌, Some, None, false, refl, codes}
+use Rattle.std.proofs.Common.{◌≡◌, [], ◌∷◌, Some, None, refl, codes}
 use Rattle.c_syntax.specs.Syntax as s
 use Rattle.c_syntax.specs.declared.bases.Specifier.TheVariants as B
 use Rattle.c_syntax.specs.declared.bases.TypeWord.TheVariants as T
@@ -7,163 +7,262 @@ use Rattle.c_syntax.specs.declared.operators.Infix.TheVariants as I
 use Rattle.c_syntax.specs.declared.operators.Prefix.TheVariants as P
 use Rattle.c_syntax.specs.declared.operators.Setting.TheVariants as Se
 use Rattle.expression_typing.specs.Outcomes.{beyond_a_limit, constant_wanted, incomplete_type, no_body, not_in_profile, too_many_cells, wrong_type}
-use Rattle.file_typing.proofs.Written.{at, word, int, base, star, refused, at_column}
+use Rattle.file_typing.proofs.Written.{at, word, int, base, star, plain, declarator, bare, set_to, parameter, parameter_of, local, alone, with_members, line, refused, at_column}
 
 -- struct S s;
 incomplete : refused (
-    s.object_definition (record { base = (base 1 false (B.Struct (Some (word (codes "S") 8)))); members = None }) (record { declarator = record { pointer = None; word = (word (codes "s") 10); dimensions = s.no_dimensions }; value = None } ∷ []) ∷
+    s.object_definition (alone (base 1 (B.Struct (Some (word (codes "S") 8))))) (bare (plain (word (codes "s") 10)) ∷ []) ∷
     []) ≡ at_column (incomplete_type) 10
 incomplete = refl
 
 -- struct S { struct S s; };
 of_itself : refused (
-    s.tag_declaration (record { base = (base 1 false (B.Struct (Some (word (codes "S") 8)))); members = (Some (s.fields (record { base = (base 12 false (B.Struct (Some (word (codes "S") 19)))); declarators = (record { pointer = None; word = (word (codes "s") 21); dimensions = s.no_dimensions } ∷ []) } ∷ []))) }) ∷
+    s.tag_declaration
+      (with_members (base 1 (B.Struct (Some (word (codes "S") 8))))
+          (s.fields (line (base 12 (B.Struct (Some (word (codes "S") 19)))) (plain (word (codes "s") 21) ∷ []) ∷ []))) ∷
     []) ≡ at_column (incomplete_type) 21
 of_itself = refl
 
 -- int a[];
 open_length : refused (
-    s.object_definition (record { base = (base 1 false (B.Words (T.Int ∷ []))); members = None }) (record { declarator = record { pointer = None; word = (word (codes "a") 5); dimensions = (s.dimensions_of (s.unsized (at 6) ∷ [])) }; value = None } ∷ []) ∷
+    s.object_definition (alone (base 1 (B.Words (T.Int ∷ []))))
+      (bare (declarator None (word (codes "a") 5) (s.dimensions_of (s.unsized (at 6) ∷ []))) ∷ []) ∷
     []) ≡ at_column (incomplete_type) 5
 open_length = refl
 
 -- int a[] = 1;
 open_length_with_value : refused (
-    s.object_definition (record { base = (base 1 false (B.Words (T.Int ∷ []))); members = None }) (record { declarator = record { pointer = None; word = (word (codes "a") 5); dimensions = (s.dimensions_of (s.unsized (at 6) ∷ [])) }; value = (Some (s.initial_value (int 1 11))) } ∷ []) ∷
+    s.object_definition (alone (base 1 (B.Words (T.Int ∷ []))))
+      (set_to (declarator None (word (codes "a") 5) (s.dimensions_of (s.unsized (at 6) ∷ []))) (s.initial_value (int 1 11)) ∷ []) ∷
     []) ≡ at_column (incomplete_type) 5
 open_length_with_value = refl
 
 -- int a[4097];
 too_long : refused (
-    s.object_definition (record { base = (base 1 false (B.Words (T.Int ∷ []))); members = None }) (record { declarator = record { pointer = None; word = (word (codes "a") 5); dimensions = (s.dimensions_of (s.sized (at 6) (int 4097 7) ∷ [])) }; value = None } ∷ []) ∷
+    s.object_definition (alone (base 1 (B.Words (T.Int ∷ []))))
+      (bare (declarator None (word (codes "a") 5) (s.dimensions_of (s.sized (at 6) (int 4097 7) ∷ []))) ∷ []) ∷
     []) ≡ at_column (too_many_cells) 5
 too_long = refl
 
 -- struct S { int a[4096]; int b; };
 struct_too_large : refused (
-    s.tag_declaration (record { base = (base 1 false (B.Struct (Some (word (codes "S") 8)))); members = (Some (s.fields (record { base = (base 12 false (B.Words (T.Int ∷ []))); declarators = (record { pointer = None; word = (word (codes "a") 16); dimensions = (s.dimensions_of (s.sized (at 17) (int 4096 18) ∷ [])) } ∷ []) } ∷ record { base = (base 25 false (B.Words (T.Int ∷ []))); declarators = (record { pointer = None; word = (word (codes "b") 29); dimensions = s.no_dimensions } ∷ []) } ∷ []))) }) ∷
+    s.tag_declaration
+      (with_members (base 1 (B.Struct (Some (word (codes "S") 8))))
+          (s.fields
+              (line (base 12 (B.Words (T.Int ∷ [])))
+                    (declarator None (word (codes "a") 16) (s.dimensions_of (s.sized (at 17) (int 4096 18) ∷ [])) ∷ []) ∷
+                  line (base 25 (B.Words (T.Int ∷ []))) (plain (word (codes "b") 29) ∷ []) ∷
+                  []))) ∷
     []) ≡ at_column (too_many_cells) 29
 struct_too_large = refl
 
 -- int a[100][100];
 array_too_large : refused (
-    s.object_definition (record { base = (base 1 false (B.Words (T.Int ∷ []))); members = None }) (record { declarator = record { pointer = None; word = (word (codes "a") 5); dimensions = (s.dimensions_of (s.sized (at 6) (int 100 7) ∷ s.sized (at 11) (int 100 12) ∷ [])) }; value = None } ∷ []) ∷
+    s.object_definition (alone (base 1 (B.Words (T.Int ∷ []))))
+      (bare (declarator None (word (codes "a") 5) (s.dimensions_of (s.sized (at 6) (int 100 7) ∷ s.sized (at 11) (int 100 12) ∷ []))) ∷ []) ∷
     []) ≡ at_column (too_many_cells) 5
 array_too_large = refl
 
 -- void f(void) { int a[4096]; int b; }
 locals_too_large : refused (
-    s.function_definition (record { base = (base 1 false (B.Words (T.Void ∷ []))); members = None }) (word (codes "f") 6) s.only_void (s.compound (at 14) (s.block_of ((s.local_declaration (record { base = (base 16 false (B.Words (T.Int ∷ []))); inits = (record { declarator = record { pointer = None; word = (word (codes "a") 20); dimensions = (s.dimensions_of (s.sized (at 21) (int 4096 22) ∷ [])) }; value = None } ∷ []) })) ∷ (s.local_declaration (record { base = (base 29 false (B.Words (T.Int ∷ []))); inits = (record { declarator = record { pointer = None; word = (word (codes "b") 33); dimensions = s.no_dimensions }; value = None } ∷ []) })) ∷ []))) ∷
+    s.function_definition (alone (base 1 (B.Words (T.Void ∷ [])))) (word (codes "f") 6)
+      s.only_void
+      (s.compound (at 14)
+          (s.block_of
+              ((s.local_declaration
+                      (local (base 16 (B.Words (T.Int ∷ [])))
+                          (bare (declarator None (word (codes "a") 20) (s.dimensions_of (s.sized (at 21) (int 4096 22) ∷ []))) ∷ []))) ∷
+                  (s.local_declaration (local (base 29 (B.Words (T.Int ∷ []))) (bare (plain (word (codes "b") 33)) ∷ []))) ∷
+                  []))) ∷
     []) ≡ at_column (beyond_a_limit) 33
 locals_too_large = refl
 
 -- int n; int a[n];
 not_constant : refused (
-    s.object_definition (record { base = (base 1 false (B.Words (T.Int ∷ []))); members = None }) (record { declarator = record { pointer = None; word = (word (codes "n") 5); dimensions = s.no_dimensions }; value = None } ∷ []) ∷
-    s.object_definition (record { base = (base 8 false (B.Words (T.Int ∷ []))); members = None }) (record { declarator = record { pointer = None; word = (word (codes "a") 12); dimensions = (s.dimensions_of (s.sized (at 13) (s.identifier (word (codes "n") 14)) ∷ [])) }; value = None } ∷ []) ∷
+    s.object_definition (alone (base 1 (B.Words (T.Int ∷ [])))) (bare (plain (word (codes "n") 5)) ∷ []) ∷
+    s.object_definition (alone (base 8 (B.Words (T.Int ∷ []))))
+      (bare (declarator None (word (codes "a") 12) (s.dimensions_of (s.sized (at 13) (s.identifier (word (codes "n") 14)) ∷ []))) ∷ []) ∷
     []) ≡ at_column (constant_wanted) 14
 not_constant = refl
 
 -- int a[1 / 0];
 trap : refused (
-    s.object_definition (record { base = (base 1 false (B.Words (T.Int ∷ []))); members = None }) (record { declarator = record { pointer = None; word = (word (codes "a") 5); dimensions = (s.dimensions_of (s.sized (at 6) (s.binary I.Divide (at 9) (int 1 7) (int 0 11)) ∷ [])) }; value = None } ∷ []) ∷
+    s.object_definition (alone (base 1 (B.Words (T.Int ∷ []))))
+      (bare (declarator None (word (codes "a") 5) (s.dimensions_of (s.sized (at 6) (s.binary I.Divide (at 9) (int 1 7) (int 0 11)) ∷ []))) ∷ []) ∷
     []) ≡ at_column (constant_wanted) 7
 trap = refl
 
 -- int n; int m = n;
 initializer_not_constant : refused (
-    s.object_definition (record { base = (base 1 false (B.Words (T.Int ∷ []))); members = None }) (record { declarator = record { pointer = None; word = (word (codes "n") 5); dimensions = s.no_dimensions }; value = None } ∷ []) ∷
-    s.object_definition (record { base = (base 8 false (B.Words (T.Int ∷ []))); members = None }) (record { declarator = record { pointer = None; word = (word (codes "m") 12); dimensions = s.no_dimensions }; value = (Some (s.initial_value (s.identifier (word (codes "n") 16)))) } ∷ []) ∷
+    s.object_definition (alone (base 1 (B.Words (T.Int ∷ [])))) (bare (plain (word (codes "n") 5)) ∷ []) ∷
+    s.object_definition (alone (base 8 (B.Words (T.Int ∷ []))))
+      (set_to (plain (word (codes "m") 12)) (s.initial_value (s.identifier (word (codes "n") 16))) ∷ []) ∷
     []) ≡ at_column (constant_wanted) 16
 initializer_not_constant = refl
 
 -- void f(int x) { switch (x) { case x: break; } }
 case_not_constant : refused (
-    s.function_definition (record { base = (base 1 false (B.Words (T.Void ∷ []))); members = None }) (word (codes "f") 6) (s.parameters (record { base = (base 8 false (B.Words (T.Int ∷ []))); pointer = None; word = (Some (word (codes "x") 12)); dimensions = s.no_dimensions } ∷ [])) (s.compound (at 15) (s.block_of ((s.inner_statement (s.switch (at 17) (s.identifier (word (codes "x") 25)) (s.groups_of (s.labelled (s.case_label (at 30) (s.identifier (word (codes "x") 35)) ∷ []) (s.block_of ((s.inner_statement (s.break_statement (at 38))) ∷ [])) ∷ [])))) ∷ []))) ∷
+    s.function_definition (alone (base 1 (B.Words (T.Void ∷ [])))) (word (codes "f") 6)
+      (s.parameters (parameter (base 8 (B.Words (T.Int ∷ []))) (word (codes "x") 12) ∷ []))
+      (s.compound (at 15)
+          (s.block_of
+              ((s.inner_statement
+                      (s.switch (at 17) (s.identifier (word (codes "x") 25))
+                          (s.groups_of
+                              (s.labelled (s.case_label (at 30) (s.identifier (word (codes "x") 35)) ∷ [])
+                                    (s.block_of ((s.inner_statement (s.break_statement (at 38))) ∷ [])) ∷
+                                  [])))) ∷
+                  []))) ∷
     []) ≡ at_column (constant_wanted) 35
 case_not_constant = refl
 
 -- void f(int n, int a[n]) { }
 parameter_length : refused (
-    s.function_definition (record { base = (base 1 false (B.Words (T.Void ∷ []))); members = None }) (word (codes "f") 6) (s.parameters (record { base = (base 8 false (B.Words (T.Int ∷ []))); pointer = None; word = (Some (word (codes "n") 12)); dimensions = s.no_dimensions } ∷ record { base = (base 15 false (B.Words (T.Int ∷ []))); pointer = None; word = (Some (word (codes "a") 19)); dimensions = (s.dimensions_of (s.sized (at 20) (s.identifier (word (codes "n") 21)) ∷ [])) } ∷ [])) (s.compound (at 25) s.no_items) ∷
+    s.function_definition (alone (base 1 (B.Words (T.Void ∷ [])))) (word (codes "f") 6)
+      (s.parameters
+          (parameter (base 8 (B.Words (T.Int ∷ []))) (word (codes "n") 12) ∷
+              parameter_of (base 15 (B.Words (T.Int ∷ []))) None (Some (word (codes "a") 19))
+                (s.dimensions_of (s.sized (at 20) (s.identifier (word (codes "n") 21)) ∷ [])) ∷
+              []))
+      (s.compound (at 25) s.no_items) ∷
     []) ≡ at_column (constant_wanted) 21
 parameter_length = refl
 
 -- int *p;
 global_pointer : refused (
-    s.object_definition (record { base = (base 1 false (B.Words (T.Int ∷ []))); members = None }) (record { declarator = record { pointer = (Some (star 5 false)); word = (word (codes "p") 6); dimensions = s.no_dimensions }; value = None } ∷ []) ∷
+    s.object_definition (alone (base 1 (B.Words (T.Int ∷ [])))) (bare (declarator (Some (star 5)) (word (codes "p") 6) s.no_dimensions) ∷ []) ∷
     []) ≡ at_column (not_in_profile) 6
 global_pointer = refl
 
 -- void f(void *p);
 pointer_to_void : refused (
-    s.function_prototype (record { base = (base 1 false (B.Words (T.Void ∷ []))); members = None }) (word (codes "f") 6) (s.parameters (record { base = (base 8 false (B.Words (T.Void ∷ []))); pointer = (Some (star 13 false)); word = (Some (word (codes "p") 14)); dimensions = s.no_dimensions } ∷ [])) ∷
+    s.function_prototype (alone (base 1 (B.Words (T.Void ∷ [])))) (word (codes "f") 6)
+      (s.parameters (parameter_of (base 8 (B.Words (T.Void ∷ []))) (Some (star 13)) (Some (word (codes "p") 14)) s.no_dimensions ∷ [])) ∷
     []) ≡ at_column (not_in_profile) 14
 pointer_to_void = refl
 
 -- void f(void *);
 nameless_pointer : refused (
-    s.function_prototype (record { base = (base 1 false (B.Words (T.Void ∷ []))); members = None }) (word (codes "f") 6) (s.parameters (record { base = (base 8 false (B.Words (T.Void ∷ []))); pointer = (Some (star 13 false)); word = None; dimensions = s.no_dimensions } ∷ [])) ∷
+    s.function_prototype (alone (base 1 (B.Words (T.Void ∷ [])))) (word (codes "f") 6)
+      (s.parameters (parameter_of (base 8 (B.Words (T.Void ∷ []))) (Some (star 13)) None s.no_dimensions ∷ [])) ∷
     []) ≡ at_column (not_in_profile) 8
 nameless_pointer = refl
 
 -- void f(int a[2][3]);
 pointer_to_array : refused (
-    s.function_prototype (record { base = (base 1 false (B.Words (T.Void ∷ []))); members = None }) (word (codes "f") 6) (s.parameters (record { base = (base 8 false (B.Words (T.Int ∷ []))); pointer = None; word = (Some (word (codes "a") 12)); dimensions = (s.dimensions_of (s.sized (at 13) (int 2 14) ∷ s.sized (at 16) (int 3 17) ∷ [])) } ∷ [])) ∷
+    s.function_prototype (alone (base 1 (B.Words (T.Void ∷ [])))) (word (codes "f") 6)
+      (s.parameters
+          (parameter_of (base 8 (B.Words (T.Int ∷ []))) None (Some (word (codes "a") 12))
+                (s.dimensions_of (s.sized (at 13) (int 2 14) ∷ s.sized (at 16) (int 3 17) ∷ [])) ∷
+              [])) ∷
     []) ≡ at_column (not_in_profile) 12
 pointer_to_array = refl
 
 -- struct S { int *p; };
 field_pointer : refused (
-    s.tag_declaration (record { base = (base 1 false (B.Struct (Some (word (codes "S") 8)))); members = (Some (s.fields (record { base = (base 12 false (B.Words (T.Int ∷ []))); declarators = (record { pointer = (Some (star 16 false)); word = (word (codes "p") 17); dimensions = s.no_dimensions } ∷ []) } ∷ []))) }) ∷
+    s.tag_declaration
+      (with_members (base 1 (B.Struct (Some (word (codes "S") 8))))
+          (s.fields (line (base 12 (B.Words (T.Int ∷ []))) (declarator (Some (star 16)) (word (codes "p") 17) s.no_dimensions ∷ []) ∷ []))) ∷
     []) ≡ at_column (not_in_profile) 17
 field_pointer = refl
 
 -- struct S { int x; } f(void);
 struct_result : refused (
-    s.function_prototype (record { base = (base 1 false (B.Struct (Some (word (codes "S") 8)))); members = (Some (s.fields (record { base = (base 12 false (B.Words (T.Int ∷ []))); declarators = (record { pointer = None; word = (word (codes "x") 16); dimensions = s.no_dimensions } ∷ []) } ∷ []))) }) (word (codes "f") 21) s.only_void ∷
+    s.function_prototype
+      (with_members (base 1 (B.Struct (Some (word (codes "S") 8))))
+          (s.fields (line (base 12 (B.Words (T.Int ∷ []))) (plain (word (codes "x") 16) ∷ []) ∷ [])))
+      (word (codes "f") 21)
+      s.only_void ∷
     []) ≡ at_column (not_in_profile) 21
 struct_result = refl
 
 -- struct S { int x; }; void f(struct S s);
 struct_parameter : refused (
-    s.tag_declaration (record { base = (base 1 false (B.Struct (Some (word (codes "S") 8)))); members = (Some (s.fields (record { base = (base 12 false (B.Words (T.Int ∷ []))); declarators = (record { pointer = None; word = (word (codes "x") 16); dimensions = s.no_dimensions } ∷ []) } ∷ []))) }) ∷
-    s.function_prototype (record { base = (base 22 false (B.Words (T.Void ∷ []))); members = None }) (word (codes "f") 27) (s.parameters (record { base = (base 29 false (B.Struct (Some (word (codes "S") 36)))); pointer = None; word = (Some (word (codes "s") 38)); dimensions = s.no_dimensions } ∷ [])) ∷
+    s.tag_declaration
+      (with_members (base 1 (B.Struct (Some (word (codes "S") 8))))
+          (s.fields (line (base 12 (B.Words (T.Int ∷ []))) (plain (word (codes "x") 16) ∷ []) ∷ []))) ∷
+    s.function_prototype (alone (base 22 (B.Words (T.Void ∷ [])))) (word (codes "f") 27)
+      (s.parameters (parameter (base 29 (B.Struct (Some (word (codes "S") 36)))) (word (codes "s") 38) ∷ [])) ∷
     []) ≡ at_column (not_in_profile) 38
 struct_parameter = refl
 
 -- struct S { int x; }; void f(struct S *p) { struct S s = *p; }
 struct_copied : refused (
-    s.tag_declaration (record { base = (base 1 false (B.Struct (Some (word (codes "S") 8)))); members = (Some (s.fields (record { base = (base 12 false (B.Words (T.Int ∷ []))); declarators = (record { pointer = None; word = (word (codes "x") 16); dimensions = s.no_dimensions } ∷ []) } ∷ []))) }) ∷
-    s.function_definition (record { base = (base 22 false (B.Words (T.Void ∷ []))); members = None }) (word (codes "f") 27) (s.parameters (record { base = (base 29 false (B.Struct (Some (word (codes "S") 36)))); pointer = (Some (star 38 false)); word = (Some (word (codes "p") 39)); dimensions = s.no_dimensions } ∷ [])) (s.compound (at 42) (s.block_of ((s.local_declaration (record { base = (base 44 false (B.Struct (Some (word (codes "S") 51)))); inits = (record { declarator = record { pointer = None; word = (word (codes "s") 53); dimensions = s.no_dimensions }; value = (Some (s.initial_value (s.unary P.Target (at 57) (s.identifier (word (codes "p") 58))))) } ∷ []) })) ∷ []))) ∷
+    s.tag_declaration
+      (with_members (base 1 (B.Struct (Some (word (codes "S") 8))))
+          (s.fields (line (base 12 (B.Words (T.Int ∷ []))) (plain (word (codes "x") 16) ∷ []) ∷ []))) ∷
+    s.function_definition (alone (base 22 (B.Words (T.Void ∷ [])))) (word (codes "f") 27)
+      (s.parameters
+          (parameter_of (base 29 (B.Struct (Some (word (codes "S") 36)))) (Some (star 38)) (Some (word (codes "p") 39)) s.no_dimensions ∷ []))
+      (s.compound (at 42)
+          (s.block_of
+              ((s.local_declaration
+                      (local (base 44 (B.Struct (Some (word (codes "S") 51))))
+                          (set_to (plain (word (codes "s") 53)) (s.initial_value (s.unary P.Target (at 57) (s.identifier (word (codes "p") 58)))) ∷
+                              []))) ∷
+                  []))) ∷
     []) ≡ at_column (not_in_profile) 57
 struct_copied = refl
 
 -- int f(int a) { return f; }
 function_named : refused (
-    s.function_definition (record { base = (base 1 false (B.Words (T.Int ∷ []))); members = None }) (word (codes "f") 5) (s.parameters (record { base = (base 7 false (B.Words (T.Int ∷ []))); pointer = None; word = (Some (word (codes "a") 11)); dimensions = s.no_dimensions } ∷ [])) (s.compound (at 14) (s.block_of ((s.inner_statement (s.return_value (at 16) (s.identifier (word (codes "f") 23)))) ∷ []))) ∷
+    s.function_definition (alone (base 1 (B.Words (T.Int ∷ [])))) (word (codes "f") 5)
+      (s.parameters (parameter (base 7 (B.Words (T.Int ∷ []))) (word (codes "a") 11) ∷ []))
+      (s.compound (at 14) (s.block_of ((s.inner_statement (s.return_value (at 16) (s.identifier (word (codes "f") 23)))) ∷ []))) ∷
     []) ≡ at_column (not_in_profile) 23
 function_named = refl
 
 -- void f(int x) { switch (x) { case 1: x = 2; case y: ; } }
 -- the end of a group comes before the label that follows
 falls_through : refused (
-    s.function_definition (record { base = (base 1 false (B.Words (T.Void ∷ []))); members = None }) (word (codes "f") 6) (s.parameters (record { base = (base 8 false (B.Words (T.Int ∷ []))); pointer = None; word = (Some (word (codes "x") 12)); dimensions = s.no_dimensions } ∷ [])) (s.compound (at 15) (s.block_of ((s.inner_statement (s.switch (at 17) (s.identifier (word (codes "x") 25)) (s.groups_of (s.labelled (s.case_label (at 30) (int 1 35) ∷ []) (s.block_of ((s.inner_statement (s.action (s.assign Se.Plain (at 40) (s.identifier (word (codes "x") 38)) (int 2 42)))) ∷ [])) ∷ s.labelled (s.case_label (at 45) (s.identifier (word (codes "y") 50)) ∷ []) (s.block_of ((s.inner_statement (s.null_statement (at 53))) ∷ [])) ∷ [])))) ∷ []))) ∷
+    s.function_definition (alone (base 1 (B.Words (T.Void ∷ [])))) (word (codes "f") 6)
+      (s.parameters (parameter (base 8 (B.Words (T.Int ∷ []))) (word (codes "x") 12) ∷ []))
+      (s.compound (at 15)
+          (s.block_of
+              ((s.inner_statement
+                      (s.switch (at 17) (s.identifier (word (codes "x") 25))
+                          (s.groups_of
+                              (s.labelled (s.case_label (at 30) (int 1 35) ∷ [])
+                                    (s.block_of
+                                        ((s.inner_statement
+                                                (s.action (s.assign Se.Plain (at 40) (s.identifier (word (codes "x") 38)) (int 2 42)))) ∷
+                                            [])) ∷
+                                  s.labelled (s.case_label (at 45) (s.identifier (word (codes "y") 50)) ∷ [])
+                                    (s.block_of ((s.inner_statement (s.null_statement (at 53))) ∷ [])) ∷
+                                  [])))) ∷
+                  []))) ∷
     []) ≡ at_column (not_in_profile) 45
 falls_through = refl
 
 -- int g(int x); int f(int x) { return g(g(x)); }
 without_body : refused (
-    s.function_prototype (record { base = (base 1 false (B.Words (T.Int ∷ []))); members = None }) (word (codes "g") 5) (s.parameters (record { base = (base 7 false (B.Words (T.Int ∷ []))); pointer = None; word = (Some (word (codes "x") 11)); dimensions = s.no_dimensions } ∷ [])) ∷
-    s.function_definition (record { base = (base 15 false (B.Words (T.Int ∷ []))); members = None }) (word (codes "f") 19) (s.parameters (record { base = (base 21 false (B.Words (T.Int ∷ []))); pointer = None; word = (Some (word (codes "x") 25)); dimensions = s.no_dimensions } ∷ [])) (s.compound (at 28) (s.block_of ((s.inner_statement (s.return_value (at 30) (s.call (word (codes "g") 37) (s.arguments_of ((s.call (word (codes "g") 39) (s.arguments_of ((s.identifier (word (codes "x") 41)) ∷ []))) ∷ []))))) ∷ []))) ∷
+    s.function_prototype (alone (base 1 (B.Words (T.Int ∷ [])))) (word (codes "g") 5)
+      (s.parameters (parameter (base 7 (B.Words (T.Int ∷ []))) (word (codes "x") 11) ∷ [])) ∷
+    s.function_definition (alone (base 15 (B.Words (T.Int ∷ [])))) (word (codes "f") 19)
+      (s.parameters (parameter (base 21 (B.Words (T.Int ∷ []))) (word (codes "x") 25) ∷ []))
+      (s.compound (at 28)
+          (s.block_of
+              ((s.inner_statement
+                      (s.return_value (at 30)
+                          (s.call (word (codes "g") 37)
+                              (s.arguments_of ((s.call (word (codes "g") 39) (s.arguments_of ((s.identifier (word (codes "x") 41)) ∷ []))) ∷ []))))) ∷
+                  []))) ∷
     []) ≡ at_column (no_body (codes "g")) 37
 without_body = refl
 
 -- int g(int x); int f(int x) { return g(x); } int x[0];
 -- a broken rule comes before what is sought at the end
 first_of_rules : refused (
-    s.function_prototype (record { base = (base 1 false (B.Words (T.Int ∷ []))); members = None }) (word (codes "g") 5) (s.parameters (record { base = (base 7 false (B.Words (T.Int ∷ []))); pointer = None; word = (Some (word (codes "x") 11)); dimensions = s.no_dimensions } ∷ [])) ∷
-    s.function_definition (record { base = (base 15 false (B.Words (T.Int ∷ []))); members = None }) (word (codes "f") 19) (s.parameters (record { base = (base 21 false (B.Words (T.Int ∷ []))); pointer = None; word = (Some (word (codes "x") 25)); dimensions = s.no_dimensions } ∷ [])) (s.compound (at 28) (s.block_of ((s.inner_statement (s.return_value (at 30) (s.call (word (codes "g") 37) (s.arguments_of ((s.identifier (word (codes "x") 39)) ∷ []))))) ∷ []))) ∷
-    s.object_definition (record { base = (base 45 false (B.Words (T.Int ∷ []))); members = None }) (record { declarator = record { pointer = None; word = (word (codes "x") 49); dimensions = (s.dimensions_of (s.sized (at 50) (int 0 51) ∷ [])) }; value = None } ∷ []) ∷
+    s.function_prototype (alone (base 1 (B.Words (T.Int ∷ [])))) (word (codes "g") 5)
+      (s.parameters (parameter (base 7 (B.Words (T.Int ∷ []))) (word (codes "x") 11) ∷ [])) ∷
+    s.function_definition (alone (base 15 (B.Words (T.Int ∷ [])))) (word (codes "f") 19)
+      (s.parameters (parameter (base 21 (B.Words (T.Int ∷ []))) (word (codes "x") 25) ∷ []))
+      (s.compound (at 28)
+          (s.block_of
+              ((s.inner_statement
+                      (s.return_value (at 30) (s.call (word (codes "g") 37) (s.arguments_of ((s.identifier (word (codes "x") 39)) ∷ []))))) ∷
+                  []))) ∷
+    s.object_definition (alone (base 45 (B.Words (T.Int ∷ []))))
+      (bare (declarator None (word (codes "x") 49) (s.dimensions_of (s.sized (at 50) (int 0 51) ∷ []))) ∷ []) ∷
     []) ≡ at_column (wrong_type) 49
 first_of_rules = refl

@@ -1,5 +1,5 @@
 -- Short ways to write the trees of a file of one line.
-use Rattle.std.proofs.Common.{ℕ, List, Bool, Option, Some, None, option_map, pos}
+use Rattle.std.proofs.Common.{ℕ, List, Option, Some, None, option_map, pos, true, false}
 use Rattle.rvt_num.specs.declared.kinds.Kind.TheVariants.{I32}
 use Rattle.rvt_tree.specs.declared.places.Place.{Place}
 use Rattle.c_syntax.specs.Syntax as s
@@ -25,12 +25,58 @@ word name column = record { name = name; place = at column }
 abbrev pub int : ℕ → ℕ → s.Expression
 int n column = s.integer (record { kind = I32; value = pos n }) (at column)
 
--- a base, and whether it has `const`
-abbrev pub base : ℕ → Bool → Specifier → Base
-base column constant specifier = record { place = at column; constant = constant; specifier = specifier }
+abbrev pub star : ℕ → Pointer
+star column = record { place = at column; constant = false }
 
-abbrev pub star : ℕ → Bool → Pointer
-star column constant = record { place = at column; constant = constant }
+abbrev pub constant_star : ℕ → Pointer
+constant_star column = record { place = at column; constant = true }
+
+-- ---- declarations
+
+abbrev pub base : ℕ → Specifier → Base
+base column specifier = record { place = at column; constant = false; specifier = specifier }
+
+abbrev pub constant_base : ℕ → Specifier → Base
+constant_base column specifier = record { place = at column; constant = true; specifier = specifier }
+
+abbrev pub declarator : Option Pointer → Word → s.Dimensions → s.Declarator
+declarator pointer word dimensions = record { pointer = pointer; word = word; dimensions = dimensions }
+
+-- a name alone
+abbrev pub plain : Word → s.Declarator
+plain word = declarator None word s.no_dimensions
+
+abbrev pub bare : s.Declarator → s.InitDeclarator
+bare declarator = record { declarator = declarator; value = None }
+
+abbrev pub set_to : s.Declarator → s.Initializer → s.InitDeclarator
+set_to declarator value = record { declarator = declarator; value = Some value }
+
+abbrev pub local : Base → List s.InitDeclarator → s.Declaration
+local base inits = record { base = base; inits = inits }
+
+abbrev pub parameter_of : Base → Option Pointer → Option Word → s.Dimensions → s.Parameter
+parameter_of base pointer word dimensions = record { base = base; pointer = pointer; word = word; dimensions = dimensions }
+
+abbrev pub parameter : Base → Word → s.Parameter
+parameter base word = parameter_of base None (Some word) s.no_dimensions
+
+-- ---- structs and enums
+
+abbrev pub line : Base → List s.Declarator → s.FieldDeclaration
+line base declarators = record { base = base; declarators = declarators }
+
+abbrev pub enumerator : Word → s.EnumerationConstant
+enumerator word = record { word = word; value = None }
+
+abbrev pub enumerator_of : Word → s.Expression → s.EnumerationConstant
+enumerator_of word value = record { word = word; value = Some value }
+
+abbrev pub alone : Base → s.ItemSpecifier
+alone base = record { base = base; members = None }
+
+abbrev pub with_members : Base → s.Members → s.ItemSpecifier
+with_members base members = record { base = base; members = Some members }
 
 -- ---- what is computed of a file
 
