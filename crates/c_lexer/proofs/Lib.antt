@@ -1,7 +1,2 @@
-pub mod Runs
 pub mod PlaceLemmas
-pub mod TableLemmas
-pub mod ClassLemmas
-pub mod FrontLemmas
-pub mod DigitLemmas
 pub mod ReadingLemmas

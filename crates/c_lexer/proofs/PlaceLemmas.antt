@@ -1,13 +1,13 @@
 -- Places after more bytes.
 use Rattle.std.proofs.Common.{◌≡◌, ℕ, ◌+◌, ◌≤◌, Bool, true, false, not, cond, List, [], ◌∷◌, ◌++◌, length, refl, sym, ap, ◌∙◌, arith, append_assoc}
 use Rattle.std.specs.Prelude.{count_by, reverse}
-use Rattle.std.specs.List.{list_all, prefix_len}
+use Rattle.std.specs.List.{prefix_len}
 use Rattle.std.proofs.lemmas.Bool.{and_parts, not-true}
-use Rattle.std.proofs.lemmas.Bool.Decides.{nat_tests}
 use Rattle.std.proofs.lemmas.List.{append-nil, reverse-append, length-reverse}
 use Rattle.std.proofs.lemmas.List.Sums.{sum_by_push, count_by-le-length, prefix_len-le-length}
 use Rattle.c_lexer.specs.declared.tokens.Place.{Place}
-use Rattle.c_lexer.specs.Bytes.{after_space, is_line_end, is_name_byte, place_after}
+use Rattle.c_tokens.specs.Bytes.{is_line_end, is_in_line}
+use Rattle.c_lexer.specs.Places.{after_space, place_after}
 
 lines_more : (seen : List ℕ) (byte : ℕ) (b : Bool) → is_line_end byte ≡ b → count_by is_line_end (seen ++ byte ∷ []) ≡ count_by is_line_end seen + cond b 1 0
 lines_more seen byte b e = sum_by_push (λ x. cond (is_line_end x) 1 0) seen byte ∙ ap (λ t. count_by is_line_end seen + cond t 1 0) e
@@ -34,10 +34,6 @@ place_step seen byte false e =
 pub place_more : (seen : List ℕ) (byte : ℕ) → place_after (seen ++ byte ∷ []) ≡ after_space (place_after seen) byte
 place_more seen byte = place_step seen byte (is_line_end byte) refl
 
--- no line ends among these bytes
-abbrev pub is_in_line : List ℕ → Bool
-is_in_line bytes = list_all (λ byte. not (is_line_end byte)) bytes
-
 pub place_along : (seen text : List ℕ) → is_in_line text ≡ true → place_after (seen ++ text) ≡ record { line = (place_after seen).line; column = (place_after seen).column + length text }
 place_along seen [] h = ap place_after (append-nil seen) ∙ same_place _ _ _ _ refl (omega arith)
 place_along seen (byte ∷ bytes) h =
@@ -47,9 +43,6 @@ place_along seen (byte ∷ bytes) h =
     let lines = ap (λ p. p.line) one in
     let columns = ap (λ p. p.column) one in
     ap place_after (sym (append_assoc seen (byte ∷ []) bytes)) ∙ rest ∙ same_place _ _ _ _ lines (omega (arith, columns))
-
-pub name_byte_in_line : (byte : ℕ) → is_name_byte byte ≡ true → not (is_line_end byte) ≡ true
-name_byte_in_line byte h = grind (arith, nat_tests)
 
 pub place_bounds : (seen : List ℕ) → ((place_after seen).line ≤ length seen + 1) × ((place_after seen).column ≤ length seen + 1)
 place_bounds seen =

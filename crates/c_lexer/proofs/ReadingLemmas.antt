@@ -1,22 +1,31 @@
 -- What holds while a file is read.
 use Rattle.std.specs.Prelude.{All}
-use Rattle.std.proofs.Common.{◌≡◌, ℕ, ◌-◌, ◌+◌, ◌<◌, ◌≤◌, true, false, List, [], ◌∷◌, ◌++◌, length, get_or, take, drop, refl, sym, ap, ◌∙◌, subst, arith, append_assoc}
+use Rattle.std.proofs.Common.{◌≡◌, ℕ, ◌-◌, ◌+◌, ◌<◌, ◌≤◌, true, false, List, [], ◌∷◌, ◌++◌, length, get_or, take, drop, Option, Some, None, Bool, cond, refl, sym, ap, ◌∙◌, subst, arith, append_assoc}
 use Rattle.std.proofs.lemmas.Bool.{both_ways}
 use Rattle.std.proofs.lemmas.List.{append-nil, append_cancel_left, length-append, length-take-le, length-drop, drop_more, take_more, drop_all, take-append-drop, drop-drop, take_at, drop_at}
 use Rattle.std.proofs.lemmas.List.Elements.{All-nil, All-cons}
 use Rattle.std.proofs.Math.Seq.{take-add}
 use Rattle.c_lexer.specs.declared.faults.Cause.{Cause}
-use Rattle.c_lexer.specs.declared.front.Front.{Front}
+use Rattle.c_lexer.specs.declared.faults.Cause.TheVariants.{BadByte, BadNumber}
+use Rattle.c_tokens.specs.declared.front.NoToken.TheVariants as why
+use Rattle.c_tokens.specs.declared.front.Front.{Front}
 use Rattle.c_lexer.specs.declared.tokens.Place.{Place}
 use Rattle.c_lexer.specs.declared.tokens.Token.{Token}
-use Rattle.c_lexer.specs.declared.tokens.TokenClass.{TokenClass}
-use Rattle.c_lexer.specs.Bytes.{after_space, is_space, place_after}
-use Rattle.c_lexer.specs.Classes.{token_class, IsTokenBefore, BeginsNoToken, StandsIn}
-use Rattle.c_lexer.specs.Fronts.{IsFront}
-use Rattle.c_lexer.specs.Spells.{SpellsTo, end, blank, token, Spells, cause_at, IsRefused}
-use Rattle.c_lexer.proofs.ClassLemmas.{empty_class, space_class, token_in_line}
-use Rattle.c_lexer.proofs.FrontLemmas.{not_none, same_first, only_token}
+use Rattle.c_tokens.specs.declared.tokens.TokenClass.{TokenClass}
+use Rattle.c_tokens.specs.Bytes.{is_space, is_digit}
+use Rattle.c_tokens.specs.Classes.{token_class, IsTokenBefore, BeginsNoToken}
+use Rattle.c_tokens.specs.Fronts.{IsFront, why_none}
+use Rattle.c_lexer.specs.Places.{after_space, place_after}
+use Rattle.c_lexer.specs.Texts.{StandsIn}
+use Rattle.c_lexer.specs.Spells.{SpellsTo, end, blank, token, Spells, cause_of, cause_at, IsRefused}
+use Rattle.c_tokens.proofs.TokenLaws.{empty_class, space_class, token_in_line, only_token}
 use Rattle.c_lexer.proofs.PlaceLemmas.{same_place, place_more, place_along, place_bounds}
+
+not_none : {X : Type 0} (x : X) → ◌≡◌ {A = Option X} (Some x) None → ⊥
+not_none x e = absurd (cc)
+
+same_first : (x y : ℕ) (xs ys : List ℕ) → x ∷ xs ≡ y ∷ ys → x ≡ y
+same_first x y xs ys e = ap (λ l. get_or l 0 0) e
 
 abbrev token_at : List ℕ → List ℕ → TokenClass → Token
 token_at seen text c = record { class = c; start = length seen; end = length (seen ++ text); place = place_after seen }
@@ -211,6 +220,13 @@ pub stands_nothing : (bytes : List ℕ) (at byte : ℕ) (place : Place) (tokens 
 stands_nothing bytes at byte place tokens within is no_space none stands =
     let rest = rest_at bytes at byte within is in
     reads_nothing bytes (take at bytes) (drop (at + 1) bytes) byte tokens no_space (subst BeginsNoToken rest none) (subst (λ r. Reads bytes (take at bytes) r tokens) rest stands.reads)
+
+cause_step : (b : Bool) → cause_of (cond b why.BadNumber (why.BadByte 0)) ≡ cond b BadNumber BadByte
+cause_step true = refl
+cause_step false = refl
+
+pub cause_is : (bytes : List ℕ) (at : ℕ) → at < length bytes → cause_of (why_none (drop at bytes)) ≡ cause_at (get_or bytes at 0)
+cause_is bytes at within = ap (λ rest. cause_of (why_none rest)) (drop_more bytes at 0 within) ∙ cause_step (is_digit (get_or bytes at 0))
 
 -- ---- where the tokens stand
 

@@ -1,5 +1,3 @@
-pub mod Bytes
-pub mod Tables
-pub mod Classes
+pub mod Places
+pub mod Texts
 pub mod Spells
-pub mod Fronts

@@ -6,9 +6,12 @@ use Rattle.c_lexer.specs.declared.faults.Fault.{Fault}
 use Rattle.c_lexer.specs.declared.faults.Fault.TheVariants.{Refused, Memory}
 use Rattle.c_lexer.specs.declared.tokens.Place.{Place}
 use Rattle.c_lexer.specs.declared.tokens.Token.{Token}
-use Rattle.c_lexer.specs.declared.tokens.TokenClass.{TokenClass}
-use Rattle.c_lexer.specs.Bytes.{is_space, is_digit, place_after}
-use Rattle.c_lexer.specs.Classes.{IsTokenBefore, BeginsNoToken}
+use Rattle.c_lexer.specs.Places.{place_after}
+use Rattle.c_tokens.specs.declared.front.NoToken.{NoToken}
+use Rattle.c_tokens.specs.declared.front.NoToken.TheVariants as why
+use Rattle.c_tokens.specs.declared.tokens.TokenClass.{TokenClass}
+use Rattle.c_tokens.specs.Bytes.{is_space, is_digit}
+use Rattle.c_tokens.specs.Classes.{IsTokenBefore, BeginsNoToken}
 
 -- The bytes, before which the file has those seen, are white space and tokens in order, and then those that are left.
 pub data SpellsTo (left : List ℕ) : List ℕ → List ℕ → List Token → Type 0 where
@@ -21,6 +24,10 @@ pub data SpellsTo (left : List ℕ) : List ℕ → List ℕ → List Token → T
 -- the bytes of a file spell the tokens
 abbrev pub Spells : List ℕ → List Token → Type 0
 Spells bytes tokens = SpellsTo [] [] bytes tokens
+
+abbrev pub cause_of : NoToken → Cause
+cause_of (why.BadByte n) = BadByte
+cause_of why.BadNumber = BadNumber
 
 abbrev pub cause_at : ℕ → Cause
 cause_at byte = if is_digit byte then BadNumber else BadByte

@@ -1,6 +1,10 @@
 //! Why a file has no tokens.
 
+ghost use Rattle.std.specs.Prelude.{◌≡◌};
+ghost use Rattle.c_lexer.specs.Spells.{cause_of};
+
 use crate::tokens::Place;
+use c_tokens::NoToken;
 use std::alloc::{AllocError, AllocFailed};
 
 /// What is wrong at a place.
@@ -10,6 +14,16 @@ pub enum Cause {
     BadByte,
     /// It begins like a constant, and is none.
     BadNumber,
+}
+
+/// What is wrong where no token begins.
+pub fn cause_of(why: NoToken) -> Cause
+    ensures { result ≡ cause_of why }
+{
+    match why {
+        NoToken::BadByte(_) => Cause::BadByte,
+        NoToken::BadNumber => Cause::BadNumber,
+    }
 }
 
 /// The bytes are refused, or there was no memory.

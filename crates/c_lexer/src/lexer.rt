@@ -2,13 +2,13 @@
 
 ghost use Rattle.std.specs.Prelude.{◌≡◌, List, All, IfOk, IfErr};
 ghost use Rattle.c_lexer.specs.declared.tokens.Token.{Token};
-ghost use Rattle.c_lexer.specs.Classes.{StandsIn};
+ghost use Rattle.c_lexer.specs.Texts.{StandsIn};
 ghost use Rattle.c_lexer.specs.Spells.{Spells, IsFaultOf, HasNoTokens};
 
-use crate::bytes::{after_space, is_space};
-use crate::faults::Fault;
-use crate::front::first_token;
+use crate::faults::{Fault, cause_of};
+use crate::places::after_space;
 use crate::tokens::{Place, Token};
+use c_tokens::{first_token, is_space};
 use std::alloc::Global;
 
 /// The tokens of a file. Comments, directives, character constants and string literals aren't read yet: the byte
@@ -47,7 +47,7 @@ pub fn lex(alloc: Global, bytes: &[u8]) -> Result<Vec<Token>, Fault>
                 };
                 start = end;
             }
-            Err(cause) => return Err(Fault::Refused(place, cause)),
+            Err(why) => return Err(Fault::Refused(place, cause_of(why))),
         }
     }
     Ok(tokens)

@@ -1,4 +1,5 @@
-use crate::{Cause, Fault, Keyword, Place, Punctuator, Token, TokenClass, lex};
+use crate::{Cause, Fault, Place, Token, lex};
+use c_tokens::{Keyword, Punctuator, TokenClass};
 use std::alloc::Global;
 use std::test::Fail;
 

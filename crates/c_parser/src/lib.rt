@@ -6,7 +6,6 @@ mod fault;
 mod grammar;
 mod machine;
 mod names;
-mod stack;
 mod state;
 mod symbol;
 

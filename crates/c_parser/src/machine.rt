@@ -8,7 +8,7 @@ ghost use Rattle.c_parser.specs.Stands.{StandsBefore, StandsAt, Advances};
 use crate::choose::{choose, choose_at_end, is_same};
 use crate::fault::{Cause, Fault};
 use crate::grammar::Grammar;
-use crate::stack::Stack;
+use value_stack::Stack;
 use crate::state::{State, before_all, class_of, read, turn};
 use crate::symbol::{Effect, Step, Symbol, Token, Turn};
 use std::alloc::{AllocError, Global};

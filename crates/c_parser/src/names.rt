@@ -1,7 +1,7 @@
 ghost use Rattle.std.specs.Prelude.{◌≡◌, [], OnOk};
 ghost use Rattle.c_parser.specs.Names.{is_among, with_name, with_names};
 
-use crate::stack::Stack;
+use value_stack::Stack;
 use std::alloc::{AllocError, Global};
 use std::collections::BTreeSet;
 use std::marker::Model;

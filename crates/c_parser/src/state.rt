@@ -4,7 +4,7 @@ ghost use Rattle.c_parser.specs.State.{class_at, after, turned, start, max_level
 use crate::choose::is_same;
 use crate::grammar::Grammar;
 use crate::names::Names;
-use crate::stack::Stack;
+use value_stack::Stack;
 use crate::symbol::{Effect, Token, Turn};
 use std::alloc::{AllocError, Global};
 

@@ -6,7 +6,6 @@ mod declared;
 mod grammar;
 mod reader;
 mod refused;
-mod stack;
 mod translation;
 
 pub use reader::read;

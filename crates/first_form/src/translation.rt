@@ -10,7 +10,7 @@ ghost use Rattle.rvt_tree.specs.Views.{stmt_view};
 use crate::declared::Declared;
 use crate::grammar::Action;
 use crate::refused::Refused;
-use crate::stack::Stack;
+use value_stack::Stack;
 use rvt_num::{BinOp, Kind, Num};
 use rvt_tree::{CType, Expr, Function, Local, Name, Stmt, Variable, builders};
 use sqlite_items::Items;

@@ -1,9 +1,9 @@
 use Rattle.std.proofs.Common.{get_or, ◌+◌, sym, ap, subst, ◌∙◌, arith, refl}
-use Rattle.std.proofs.lemmas.List.{length-drop, drop_more, take_rest}
-use Rattle.c_lexer.specs.Classes.{BeginsNoToken}
-use Rattle.c_lexer.specs.Fronts.{IsFront}
-use Rattle.c_lexer.specs.Spells.{cause_at}
-use Rattle.c_lexer.proofs.ReadingLemmas.{Stands, stands_bounds, stands_space, stands_token, stands_spelled, stands_only, stands_fault, stands_nothing, spelled_stand}
+use Rattle.std.proofs.lemmas.List.{length-drop, take_rest}
+use Rattle.c_tokens.specs.Classes.{BeginsNoToken}
+use Rattle.c_tokens.specs.Fronts.{IsFront, why_none}
+use Rattle.c_lexer.specs.Spells.{cause_of}
+use Rattle.c_lexer.proofs.ReadingLemmas.{Stands, stands_bounds, stands_space, stands_token, stands_spelled, stands_only, stands_fault, stands_nothing, cause_is, spelled_stand}
 use Rattle.c_lexer.proofs.lexer.lex.Goals as goal
 
 pub after_space-place-requires-clause-column : goal.after_space-place-requires-clause-column
@@ -39,9 +39,10 @@ pub returns-in-Err-clause-refused : goal.returns-in-Err-clause-refused
 returns-in-Err-clause-refused c =
     let bytes = c.args.bytes.now in
     let start = c.tokens.start in
-    let first = ap (λ text. get_or text 0 0) (take_rest bytes start ∙ drop_more bytes start 0 c.tokens-test.true) in
-    stands_fault bytes start (get_or bytes start 0) c.tokens.place c.tokens.tokens.items c.in-Err.cause c.tokens-test.true refl (sym c.is_space.ensures ∙ c.if-is_space.false)
-    (subst BeginsNoToken (take_rest bytes start) c.in-Err.ensures.none) (c.in-Err.ensures.cause ∙ ap cause_at first) c.tokens.invariant
+    let why = c.in-Err.ensures.why ∙ ap why_none (take_rest bytes start) in
+    let cause = c.cause_of.ensures ∙ ap cause_of why ∙ cause_is bytes start c.tokens-test.true in
+    stands_fault bytes start (get_or bytes start 0) c.tokens.place c.tokens.tokens.items c.cause_of.result c.tokens-test.true refl (sym c.is_space.ensures ∙ c.if-is_space.false)
+    (subst BeginsNoToken (take_rest bytes start) c.in-Err.ensures.none) cause c.tokens.invariant
 
 pub returns-in-Err-clause-none : goal.returns-in-Err-clause-none
 returns-in-Err-clause-none c =

@@ -1,0 +1,2 @@
+pub mod StackEffects
+pub mod EffectsHold

@@ -1,0 +1,2 @@
+//! Reading a C file.
+#![tactic(auto)]

@@ -1,0 +1,9 @@
+pub mod Bases
+pub mod Follows
+pub mod Nodes
+pub mod OperandRules
+pub mod Operators
+pub mod Rules
+pub mod Shown
+pub mod Stacks
+pub mod TypeRules

@@ -1,0 +1,6 @@
+//! A stack.
+#![tactic(auto)]
+
+mod stack;
+
+pub use stack::Stack;
