@@ -1,0 +1,4 @@
+pub mod Scene
+pub mod WorkedExpressions
+pub mod WorkedSizes
+pub mod WorkedActs
