@@ -1,5 +1,7 @@
+pub mod OneAnswer
 pub mod Written
 pub mod WorkedNames
 pub mod WorkedTypes
+pub mod WorkedCycles
 pub mod WorkedLimits
 pub mod WorkedPrograms

@@ -1,6 +1,6 @@
 -- What is sought when all items of a file are typed: calls of functions without a body, and then addresses of locals
 -- in functions on a call cycle.
-use Rattle.std.specs.Prelude.{◌≡◌, ℕ, ◌<◌, ◌≤◌, ◌⊎◌, List, [], ◌∷◌, map, flat_map, find, Bool, false, not, Contains, Option, Some, None, is_some, slice_get}
+use Rattle.std.specs.Prelude.{◌≡◌, ℕ, ◌<◌, ◌≤◌, ◌⊎◌, List, [], ◌∷◌, map, flat_map, find, Bool, false, not, Option, Some, None, is_some, slice_get}
 use Rattle.rvt_tree.specs.declared.places.Place.{Place}
 use Rattle.rvt_tree.specs.declared.expressions.Variable.{Variable}
 use Rattle.rvt_tree.specs.declared.expressions.Variable.TheVariants as V
@@ -41,7 +41,8 @@ pub record TakesLocal (functions : List FunctionEntry) (number : ℕ) (at : Plac
   pub body : Body
   pub its_body : entry.body ≡ Some body
   pub local : ℕ
-  pub taken : Contains body.taken (record { variable = V.Local local; place = at })
+  pub k : ℕ
+  pub taken : At body.taken k (record { variable = V.Local local; place = at })
 
 -- the address of a local is taken at this place, in a function on a call cycle
 abbrev pub IsAddressOnCycle : List FunctionEntry → Place → Type 0

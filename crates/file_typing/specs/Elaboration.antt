@@ -4,6 +4,9 @@ use Rattle.rvt_num.specs.declared.kinds.Kind.{Kind}
 use Rattle.rvt_tree.specs.Syntax as t
 use Rattle.rvt_tree.specs.declared.places.Place.{Place}
 use Rattle.rvt_tree.specs.declared.places.Refusal.{Refusal}
+use Rattle.rvt_tree.specs.declared.places.Fault.{Fault}
+use Rattle.rvt_tree.specs.declared.places.Fault.TheVariants as F
+use Rattle.rvt_tree.specs.declared.programs.Program.{Program}
 use Rattle.rvt_tree.specs.declared.expressions.Variable.{Variable}
 use Rattle.rvt_tree.specs.declared.expressions.Variable.TheVariants as V
 use Rattle.c_types.specs.Layout.{Shape, AWord}
@@ -16,7 +19,7 @@ use Rattle.file_typing.specs.FileScope.{FileScope, FunctionEntry, Interface, Bod
 use Rattle.file_typing.specs.Items.{all_items}
 use Rattle.file_typing.specs.LocalObjects.{object_of_local, statement_resolved}
 use Rattle.file_typing.specs.Objects.{zeros}
-use Rattle.file_typing.specs.Programs.{ProgramView, StructView, FunctionView, LocalView, ObjectView}
+use Rattle.file_typing.specs.Programs.{ProgramView, IsProgramOf, StructView, FunctionView, LocalView, ObjectView}
 
 -- ---- structs
 
@@ -154,7 +157,21 @@ pub data Elaborated (items : List s.ExternalItem) : Result ProgramView Break →
       → HasNoAddressOnCycle file.functions
       → Elaborated items (Ok (program_of file))
 
--- a refusal as the program gives it
+-- ---- the trees that say it
+
+-- a refusal names the place, the cause by its number, and its word
 abbrev pub IsRefusalOf : Break → Refusal → Type 0
 IsRefusalOf broken refusal =
     (refusal.place ≡ broken.place) × (refusal.cause ≡ number_of broken.cause) × (refusal.word ≡ word_of broken.cause)
+
+-- the trees of a program, or a refusal, say what the items become, unless memory was wanting
+abbrev pub IsElaborated : List s.ExternalItem → Result Program Fault → Type 0
+IsElaborated items (Ok program) = (view : ProgramView) × Elaborated items (Ok view) × IsProgramOf view program
+IsElaborated items (Err (F.Refused refusal)) = (broken : Break) × Elaborated items (Err broken) × IsRefusalOf broken refusal
+IsElaborated items (Err F.Memory) = Unit {0}
+
+-- ---- at most one
+
+-- a file becomes one program or breaks one rule first
+abbrev pub OneAnswer : Type 0
+OneAnswer = (items : List s.ExternalItem) (a b : Result ProgramView Break) → Elaborated items a → Elaborated items b → a ≡ b
