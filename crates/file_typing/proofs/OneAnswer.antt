@@ -1,5 +1,5 @@
 -- A file becomes one program, or breaks one rule first.
-use Rattle.std.proofs.Common.{◌≡◌, ℕ, ◌<◌, ◌≤◌, List, Option, Some, None, Result, Ok, Err, inl, inr, refl, sym, ap₂, ◌∙◌, arith}
+use Rattle.std.proofs.Common.{◌≡◌, ℕ, ◌<◌, ◌≤◌, List, Option, Some, None, Result, Ok, Err, inl, inr, sym, ap, ap₂, ◌∙◌, subst, arith}
 use Rattle.rvt_tree.specs.declared.places.Place.{Place}
 use Rattle.c_syntax.specs.Syntax as s
 use Rattle.expression_typing.specs.Outcomes.{Cause, address_on_a_call_cycle, no_body, Outcome, Made, Broken}
@@ -11,29 +11,43 @@ use Rattle.file_typing.specs.Programs.{ProgramView}
 
 -- ---- outcomes
 
-made_once : {o : Outcome FileScope} {a b : FileScope} {m n : Notes} → o ≡ Made a m → o ≡ Made b n → a ≡ b
-made_once refl refl = refl
+abbrev file_or : FileScope → Outcome FileScope → FileScope
+file_or other (Made file notes) = file
+file_or other (Broken cause place) = other
 
-broken_once : {o : Outcome FileScope} {c d : Cause} {p q : Place}
-    → o ≡ Broken c p → o ≡ Broken d q → ◌≡◌ {A = Result ProgramView Break} (Err (record { cause = c; place = p })) (Err (record { cause = d; place = q }))
-broken_once refl refl = refl
+abbrev answer_of : Outcome FileScope → Result ProgramView Break
+answer_of (Made file notes) = Ok (program_of file)
+answer_of (Broken cause place) = Err (record { cause = cause; place = place })
+
+made_once : {o : Outcome FileScope} {a b : FileScope} {m n : Notes} → o ≡ Made a m → o ≡ Made b n → a ≡ b
+made_once {a = a} e f = ap (file_or a) (sym e ∙ f)
+
+broken_once : {o : Outcome FileScope} {c d : Cause} {p q : Place} → o ≡ Broken c p → o ≡ Broken d q → answer_of (Broken c p) ≡ answer_of (Broken d q)
+broken_once e f = ap answer_of (sym e ∙ f)
 
 not_both : {o : Outcome FileScope} {a : FileScope} {m : Notes} {c : Cause} {p : Place} → o ≡ Made a m → o ≡ Broken c p → ⊥
-not_both {a = a} {m} {c} {p} e f = absurd (let q : Made a m ≡ Broken c p = sym e ∙ f in cc)
+not_both {a = a} {m = m} {c = c} {p = p} e f = absurd (let q : Made a m ≡ Broken c p = sym e ∙ f in cc)
 
 -- ---- calls of functions without a body
 
+abbrev call_or : Call → Option Call → Call
+call_or other (Some call) = call
+call_or other None = other
+
 call_once : {o : Option Call} {c d : Call} → o ≡ Some c → o ≡ Some d → c ≡ d
-call_once refl refl = refl
+call_once {c = c} e f = ap (call_or c) (sym e ∙ f)
 
 call_or_none : {o : Option Call} {c : Call} → o ≡ Some c → o ≡ None → ⊥
 call_or_none {c = c} e f = absurd (let q : Some c ≡ None = sym e ∙ f in cc)
 
-calls_once : {a b : FileScope} {c d : Call} → a ≡ b → first_without_body a.functions ≡ Some c → first_without_body b.functions ≡ Some d → c ≡ d
-calls_once refl e f = call_once e f
+abbrev first_call : FileScope → Option Call
+first_call file = first_without_body file.functions
 
-calls_or_none : {a b : FileScope} {c : Call} → a ≡ b → first_without_body a.functions ≡ Some c → first_without_body b.functions ≡ None → ⊥
-calls_or_none refl e f = call_or_none e f
+calls_once : {a b : FileScope} {c d : Call} → a ≡ b → first_call a ≡ Some c → first_call b ≡ Some d → c ≡ d
+calls_once same e f = call_once e (ap first_call same ∙ f)
+
+calls_or_none : {a b : FileScope} {c : Call} → a ≡ b → first_call a ≡ Some c → first_call b ≡ None → ⊥
+calls_or_none same e f = call_or_none e (ap first_call same ∙ f)
 
 -- ---- places
 
@@ -48,25 +62,31 @@ not_behind_both {a} {b} (inr h) (inl k) = absurd (let e : a.line ≡ b.line = h.
 not_behind_both {a} {b} (inr h) (inr k) =
     same_place h.0 (let l : a.column ≤ b.column = h.1 in let m : b.column ≤ a.column = k.1 in let e : a.column ≡ b.column = omega (arith, l, m) in e)
 
-address_once : {a b : FileScope} {p q : Place}
-    → a ≡ b → IsFirstAddressOnCycle a.functions p → IsFirstAddressOnCycle b.functions q → p ≡ q
-address_once refl h k = not_behind_both (h.first _ k.there) (k.first _ h.there)
+abbrev first_at : Place → FileScope → Type 0
+first_at place file = IsFirstAddressOnCycle file.functions place
 
-address_or_none : {a b : FileScope} {p : Place} → a ≡ b → IsFirstAddressOnCycle a.functions p → HasNoAddressOnCycle b.functions → ⊥
-address_or_none refl h none = none _ h.there
+both_first : (file : FileScope) (p q : Place) → IsFirstAddressOnCycle file.functions p → IsFirstAddressOnCycle file.functions q → p ≡ q
+both_first file p q h k = not_behind_both (h.first q k.there) (k.first p h.there)
+
+address_once : {a b : FileScope} (p q : Place) → a ≡ b → first_at p a → first_at q b → p ≡ q
+address_once {a = a} p q same h k = both_first a p q h (subst (first_at q) (sym same) k)
+
+first_or_none : (file : FileScope) (p : Place) → IsFirstAddressOnCycle file.functions p → HasNoAddressOnCycle file.functions → ⊥
+first_or_none file p h none = none p h.there
+
+address_or_none : {a b : FileScope} (p : Place) → a ≡ b → first_at p a → HasNoAddressOnCycle b.functions → ⊥
+address_or_none {b = b} p same h none = first_or_none b p (subst (first_at p) same h) none
 
 -- ---- answers
 
-of_call : {c d : Call} → c ≡ d
-    → ◌≡◌ {A = Result ProgramView Break} (Err (record { cause = no_body c.name; place = c.place })) (Err (record { cause = no_body d.name; place = d.place }))
-of_call refl = refl
+abbrev answer_of_call : Call → Result ProgramView Break
+answer_of_call call = Err (record { cause = no_body call.name; place = call.place })
 
-of_place : {p q : Place} → p ≡ q
-    → ◌≡◌ {A = Result ProgramView Break} (Err (record { cause = address_on_a_call_cycle; place = p })) (Err (record { cause = address_on_a_call_cycle; place = q }))
-of_place refl = refl
+abbrev answer_of_place : Place → Result ProgramView Break
+answer_of_place place = Err (record { cause = address_on_a_call_cycle; place = place })
 
-of_file : {a b : FileScope} → a ≡ b → ◌≡◌ {A = Result ProgramView Break} (Ok (program_of a)) (Ok (program_of b))
-of_file refl = refl
+abbrev answer_of_file : FileScope → Result ProgramView Break
+answer_of_file file = Ok (program_of file)
 
 pub one_answer : (items : List s.ExternalItem) (a b : Result ProgramView Break) → Elaborated items a → Elaborated items b → a ≡ b
 one_answer items _ _ (breaks_a_rule e) (breaks_a_rule f) = broken_once e f
@@ -74,14 +94,14 @@ one_answer items _ _ (breaks_a_rule e) (calls_no_body m c) = absurd (not_both m 
 one_answer items _ _ (breaks_a_rule e) (takes_address_on_cycle m c h) = absurd (not_both m e)
 one_answer items _ _ (breaks_a_rule e) (is_program m c h) = absurd (not_both m e)
 one_answer items _ _ (calls_no_body m c) (breaks_a_rule f) = absurd (not_both m f)
-one_answer items _ _ (calls_no_body m c) (calls_no_body n d) = of_call (calls_once (made_once m n) c d)
+one_answer items _ _ (calls_no_body m c) (calls_no_body n d) = ap answer_of_call (calls_once (made_once m n) c d)
 one_answer items _ _ (calls_no_body m c) (takes_address_on_cycle n d k) = absurd (calls_or_none (made_once m n) c d)
 one_answer items _ _ (calls_no_body m c) (is_program n d k) = absurd (calls_or_none (made_once m n) c d)
 one_answer items _ _ (takes_address_on_cycle m c h) (breaks_a_rule f) = absurd (not_both m f)
 one_answer items _ _ (takes_address_on_cycle m c h) (calls_no_body n d) = absurd (calls_or_none (made_once n m) d c)
-one_answer items _ _ (takes_address_on_cycle m c h) (takes_address_on_cycle n d k) = of_place (address_once (made_once m n) h k)
-one_answer items _ _ (takes_address_on_cycle m c h) (is_program n d k) = absurd (address_or_none (made_once m n) h k)
+one_answer items _ _ (takes_address_on_cycle {at = p} m c h) (takes_address_on_cycle {at = q} n d k) = ap answer_of_place (address_once p q (made_once m n) h k)
+one_answer items _ _ (takes_address_on_cycle {at = p} m c h) (is_program n d k) = absurd (address_or_none p (made_once m n) h k)
 one_answer items _ _ (is_program m c h) (breaks_a_rule f) = absurd (not_both m f)
 one_answer items _ _ (is_program m c h) (calls_no_body n d) = absurd (calls_or_none (made_once n m) d c)
-one_answer items _ _ (is_program m c h) (takes_address_on_cycle n d k) = absurd (address_or_none (made_once n m) k h)
-one_answer items _ _ (is_program m c h) (is_program n d k) = of_file (made_once m n)
+one_answer items _ _ (is_program m c h) (takes_address_on_cycle {at = q} n d k) = absurd (address_or_none q (made_once n m) k h)
+one_answer items _ _ (is_program m c h) (is_program n d k) = ap answer_of_file (made_once m n)

@@ -1,5 +1,5 @@
 -- What is sought at the end of a file: addresses of locals in functions on a call cycle.
-use Rattle.std.proofs.Common.{◌≡◌, ℕ, zero, suc, List, [], ◌∷◌, Option, Some, None, Ok, Err, inr, refl, sym, ap, ◌∙◌, codes, arith}
+use Rattle.std.proofs.Common.{◌≡◌, ℕ, zero, suc, List, [], ◌∷◌, slice_get, Option, Some, None, Ok, Err, inr, refl, sym, ap, ◌∙◌, codes, arith}
 use Rattle.rvt_tree.specs.declared.places.Place.{Place}
 use Rattle.rvt_tree.specs.declared.expressions.Variable.TheVariants as V
 use Rattle.c_syntax.specs.Syntax as s
@@ -17,15 +17,19 @@ use Rattle.file_typing.proofs.Written.{at, word, int, base, star, plain, set_to,
 
 -- ---- a file of one function
 
-moved : {X : Type 0} {xs ys : List X} {k : ℕ} {y : X} → xs ≡ ys → At ys k y → At xs k y
-moved refl h = h
+moved : {X : Type 0} {xs ys : List X} {y : X} (k : ℕ) → xs ≡ ys → At ys k y → At xs k y
+moved k same h = ap (λ list. slice_get list k) same ∙ h
+
+abbrev some_or : {X : Type 0} → X → Option X → X
+some_or other None = other
+some_or other (Some x) = x
 
 only_one : {X : Type 0} {x y : X} (k : ℕ) → At (x ∷ []) k y → x ≡ y
-only_one zero refl = refl
+only_one {x = x} zero h = ap (some_or x) h
 only_one {y = y} (suc k) h = absurd (let q : None ≡ Some y = h in cc)
 
 the_body : {a b : Body} → ◌≡◌ {A = Option Body} (Some a) (Some b) → a ≡ b
-the_body refl = refl
+the_body {a = a} h = ap (some_or a) h
 
 -- the one address that is taken stands at its place
 only_taken : (entry : FunctionEntry) (body : Body) (taken : Taken) → entry.body ≡ Some body → body.taken ≡ taken ∷ []
@@ -36,18 +40,18 @@ only_taken entry body taken its_body one number place takes = ap (λ taken. take
   same_body : body ≡ takes.body
   same_body = the_body (sym its_body ∙ ap (λ entry. entry.body) same_entry ∙ takes.its_body)
   same_taken : taken ≡ record { variable = V.Local takes.local; place = place }
-  same_taken = only_one takes.k (moved (sym one ∙ ap (λ body. body.taken) same_body) takes.taken)
+  same_taken = only_one takes.k (moved takes.k (sym one ∙ ap (λ body. body.taken) same_body) takes.taken)
 
 not_behind_itself : {a b : Place} → a ≡ b → IsNotBehind a b
-not_behind_itself refl = inr (refl, omega arith)
+not_behind_itself {a = a} {b = b} e = inr (ap (λ place. place.line) e, (let c : a.column ≡ b.column = ap (λ place. place.column) e in omega (arith, c)))
 
 -- ---- files
 
-file_of : Outcome FileScope → FileScope
+abbrev file_of : Outcome FileScope → FileScope
 file_of (Made file notes) = file
 file_of (Broken cause place) = beginning []
 
-notes_of : Outcome FileScope → Notes
+abbrev notes_of : Outcome FileScope → Notes
 notes_of (Made file notes) = notes
 notes_of (Broken cause place) = nothing_noted
 
@@ -74,11 +78,8 @@ calls_itself =
 
 address_taken : IsAddressOnCycle (file_of (whole_file calls_itself)).functions (at 37)
 address_taken =
-    0,
-    record { entry = _; is_there = refl; body = _; its_body = refl; local = 1; k = 0; taken = refl },
-    0,
-    record { successors = 0 ∷ []; is_there = refl; place = 0; leads = refl },
-    here
+    (0, record { entry = _; is_there = refl; body = _; its_body = refl; local = 1; k = 0; taken = refl },
+    (0, record { successors = 0 ∷ []; is_there = refl; place = 0; leads = refl }, here))
 
 first_address : IsFirstAddressOnCycle (file_of (whole_file calls_itself)).functions (at 37)
 first_address =
