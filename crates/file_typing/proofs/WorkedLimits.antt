@@ -77,6 +77,41 @@ locals_too_large : refused (
     []) ≡ at_column (beyond_a_limit) 33
 locals_too_large = refl
 
+-- int a[4096], b[4096], c[4096], d[4096], e[4096], g[4096], h[4096], i[4096], j[4096], k[4096], l[4096], m[4096], n[4096], o[4096], p[4096], q[4096]; void f(void) { int x; int *y = &x; }
+-- a local counts as an object from the first taking of its address
+objects_too_large : refused (
+    s.object_definition (alone (base 1 (B.Words (T.Int ∷ []))))
+      (bare (declarator None (word (codes "a") 5) (s.dimensions_of (s.sized (at 6) (int 4096 7) ∷ []))) ∷
+          bare (declarator None (word (codes "b") 14) (s.dimensions_of (s.sized (at 15) (int 4096 16) ∷ []))) ∷
+          bare (declarator None (word (codes "c") 23) (s.dimensions_of (s.sized (at 24) (int 4096 25) ∷ []))) ∷
+          bare (declarator None (word (codes "d") 32) (s.dimensions_of (s.sized (at 33) (int 4096 34) ∷ []))) ∷
+          bare (declarator None (word (codes "e") 41) (s.dimensions_of (s.sized (at 42) (int 4096 43) ∷ []))) ∷
+          bare (declarator None (word (codes "g") 50) (s.dimensions_of (s.sized (at 51) (int 4096 52) ∷ []))) ∷
+          bare (declarator None (word (codes "h") 59) (s.dimensions_of (s.sized (at 60) (int 4096 61) ∷ []))) ∷
+          bare (declarator None (word (codes "i") 68) (s.dimensions_of (s.sized (at 69) (int 4096 70) ∷ []))) ∷
+          bare (declarator None (word (codes "j") 77) (s.dimensions_of (s.sized (at 78) (int 4096 79) ∷ []))) ∷
+          bare (declarator None (word (codes "k") 86) (s.dimensions_of (s.sized (at 87) (int 4096 88) ∷ []))) ∷
+          bare (declarator None (word (codes "l") 95) (s.dimensions_of (s.sized (at 96) (int 4096 97) ∷ []))) ∷
+          bare (declarator None (word (codes "m") 104) (s.dimensions_of (s.sized (at 105) (int 4096 106) ∷ []))) ∷
+          bare (declarator None (word (codes "n") 113) (s.dimensions_of (s.sized (at 114) (int 4096 115) ∷ []))) ∷
+          bare (declarator None (word (codes "o") 122) (s.dimensions_of (s.sized (at 123) (int 4096 124) ∷ []))) ∷
+          bare (declarator None (word (codes "p") 131) (s.dimensions_of (s.sized (at 132) (int 4096 133) ∷ []))) ∷
+          bare (declarator None (word (codes "q") 140) (s.dimensions_of (s.sized (at 141) (int 4096 142) ∷ []))) ∷
+          []) ∷
+    s.function_definition (alone (base 149 (B.Words (T.Void ∷ [])))) (word (codes "f") 154)
+      s.only_void
+      (s.compound (at 162)
+          (s.block_of
+              ((s.local_declaration (local (base 164 (B.Words (T.Int ∷ []))) (bare (plain (word (codes "x") 168)) ∷ []))) ∷
+                  (s.local_declaration
+                      (local (base 171 (B.Words (T.Int ∷ [])))
+                          (set_to (declarator (Some (star 175)) (word (codes "y") 176) s.no_dimensions)
+                                (s.initial_value (s.unary P.Address (at 180) (s.identifier (word (codes "x") 181)))) ∷
+                              []))) ∷
+                  []))) ∷
+    []) ≡ at_column (beyond_a_limit) 168
+objects_too_large = refl
+
 -- int n; int a[n];
 not_constant : refused (
     s.object_definition (alone (base 1 (B.Words (T.Int ∷ [])))) (bare (plain (word (codes "n") 5)) ∷ []) ∷
