@@ -1,12 +1,12 @@
 -- A file becomes one program, or breaks one rule first.
-use Rattle.std.proofs.Common.{◌≡◌, ℕ, ◌<◌, ◌≤◌, List, Option, Some, None, Result, Ok, Err, inl, inr, sym, ap, ap₂, ◌∙◌, subst, arith}
+use Rattle.std.proofs.Common.{◌≡◌, ◌≤◌, List, Option, Some, None, Result, Ok, Err, inl, inr, sym, ap, ap₂, ◌∙◌, subst, arith}
 use Rattle.rvt_tree.specs.declared.places.Place.{Place}
 use Rattle.c_syntax.specs.Syntax as s
 use Rattle.expression_typing.specs.Outcomes.{Cause, address_on_a_call_cycle, no_body, Outcome, Made, Broken}
 use Rattle.expression_typing.specs.Progress.{Call, Notes}
 use Rattle.file_typing.specs.CallCycles.{first_without_body, IsNotBehind, IsFirstAddressOnCycle, HasNoAddressOnCycle}
-use Rattle.file_typing.specs.Elaboration.{Break, Elaborated, breaks_a_rule, calls_no_body, takes_address_on_cycle, is_program, program_of}
-use Rattle.file_typing.specs.FileScope.{FileScope, FunctionEntry}
+use Rattle.file_typing.specs.Elaboration.{OneAnswer, Break, Elaborated, breaks_a_rule, calls_no_body, takes_address_on_cycle, is_program, program_of}
+use Rattle.file_typing.specs.FileScope.{FileScope}
 use Rattle.file_typing.specs.Programs.{ProgramView}
 
 -- ---- outcomes
@@ -105,3 +105,6 @@ one_answer items _ _ (is_program m c h) (breaks_a_rule f) = absurd (not_both m f
 one_answer items _ _ (is_program m c h) (calls_no_body n d) = absurd (calls_or_none (made_once n m) d c)
 one_answer items _ _ (is_program m c h) (takes_address_on_cycle {at = q} n d k) = absurd (address_or_none q (made_once n m) k h)
 one_answer items _ _ (is_program m c h) (is_program n d k) = ap answer_of_file (made_once m n)
+
+pub holds : OneAnswer
+holds = one_answer

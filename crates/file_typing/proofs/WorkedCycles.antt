@@ -6,7 +6,7 @@ use Rattle.c_syntax.specs.Syntax as s
 use Rattle.c_syntax.specs.declared.bases.Specifier.TheVariants as B
 use Rattle.c_syntax.specs.declared.bases.TypeWord.TheVariants as T
 use Rattle.c_syntax.specs.declared.operators.Prefix.TheVariants as P
-use Rattle.call_graph.specs.Graphs.{At, Edge, Reaches, here}
+use Rattle.call_graph.specs.Graphs.{At, here}
 use Rattle.expression_typing.specs.Outcomes.{address_on_a_call_cycle, Outcome, Made, Broken}
 use Rattle.expression_typing.specs.Progress.{Notes, Taken, nothing_noted}
 use Rattle.file_typing.specs.CallCycles.{TakesLocal, IsNotBehind, IsAddressOnCycle, IsFirstAddressOnCycle, HasNoAddressOnCycle}

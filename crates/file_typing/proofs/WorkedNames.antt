@@ -1,5 +1,5 @@
 -- Small files, each of which breaks a rule on names first, computed.
-use Rattle.std.proofs.Common.{◌≡◌, [], ◌∷◌, Some, None, true, refl, codes}
+use Rattle.std.proofs.Common.{◌≡◌, [], ◌∷◌, Some, None, refl, codes}
 use Rattle.c_syntax.specs.Syntax as s
 use Rattle.c_syntax.specs.declared.bases.Specifier.TheVariants as B
 use Rattle.c_syntax.specs.declared.bases.TypeWord.TheVariants as T

@@ -1,10 +1,10 @@
 -- Where a statement stands: the names in scope, and what a jump may mean there (C 6.2.1, 6.8.6).
-use Rattle.std.specs.Prelude.{ℕ, List, [], ◌∷◌, ◌++◌, Bool, true, false, ◌||◌, if◌then◌else◌, Option}
+use Rattle.std.specs.Prelude.{ℕ, List, [], ◌∷◌, ◌++◌, Bool, true, if◌then◌else◌, Option}
 use Rattle.std.specs.List.{list_any}
 use Rattle.std.specs.Str.{bytes_eq}
 use Rattle.rvt_num.specs.declared.kinds.Kind.{Kind}
 use Rattle.rvt_tree.specs.declared.places.Place.{Place}
-use Rattle.expression_typing.specs.Entities.{Binding, Entity, Scope, Structure, Tag}
+use Rattle.expression_typing.specs.Entities.{Binding, Scope, Structure, Tag}
 use Rattle.expression_typing.specs.Outcomes.{Checking, give, broken, declared_twice}
 
 pub record Block : Type 0 where

@@ -1,11 +1,10 @@
 -- What is sought when all items of a file are typed: calls of functions without a body, and then addresses of locals
 -- in functions on a call cycle.
-use Rattle.std.specs.Prelude.{◌≡◌, ℕ, ◌<◌, ◌≤◌, ◌⊎◌, List, [], ◌∷◌, map, flat_map, find, Bool, false, not, Option, Some, None, is_some, slice_get}
+use Rattle.std.specs.Prelude.{◌≡◌, ℕ, ◌<◌, ◌≤◌, ◌⊎◌, List, [], map, flat_map, find, Bool, false, not, Option, Some, None, is_some, slice_get}
 use Rattle.rvt_tree.specs.declared.places.Place.{Place}
-use Rattle.rvt_tree.specs.declared.expressions.Variable.{Variable}
 use Rattle.rvt_tree.specs.declared.expressions.Variable.TheVariants as V
 use Rattle.call_graph.specs.Graphs.{At, Edge, Reaches}
-use Rattle.expression_typing.specs.Progress.{Call, Taken}
+use Rattle.expression_typing.specs.Progress.{Call}
 use Rattle.file_typing.specs.FileScope.{FunctionEntry, Body}
 
 -- ---- calls

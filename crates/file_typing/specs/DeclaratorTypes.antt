@@ -1,5 +1,5 @@
 -- The type of what is declared: that of its base, a pointer to it, and arrays of that (C 6.7.6); and what each sort of declaration may have.
-use Rattle.std.specs.Prelude.{ℕ, ◌+◌, List, [], ◌∷◌, nat_lt, Bool, true, false, ◌||◌, if◌then◌else◌, Option, Some, None, is_none, ℤ, pos, negsuc, int_lt}
+use Rattle.std.specs.Prelude.{ℕ, ◌+◌, List, [], ◌∷◌, nat_lt, Bool, true, false, ◌||◌, if◌then◌else◌, Option, Some, None, is_none, ℤ, pos, int_lt}
 use Rattle.std.specs.List.{list_any}
 use Rattle.rvt_num.specs.declared.kinds.Kind.{Kind}
 use Rattle.rvt_tree.specs.declared.places.Place.{Place}

@@ -1,13 +1,10 @@
 -- What a file of C becomes: a program, or the first rule that it breaks (C 6.3 to 6.9).
-use Rattle.std.specs.Prelude.{◌≡◌, ℕ, zero, suc, ◌+◌, List, [], ◌∷◌, ◌++◌, flat_map, take, drop, length, Bool, true, false, if◌then◌else◌, Option, Some, None, option_map, option_and_then, Result, Ok, Err}
-use Rattle.rvt_num.specs.declared.kinds.Kind.{Kind}
-use Rattle.rvt_tree.specs.Syntax as t
+use Rattle.std.specs.Prelude.{◌≡◌, ℕ, suc, ◌+◌, List, [], ◌∷◌, ◌++◌, flat_map, take, drop, length, Bool, true, false, if◌then◌else◌, Option, Some, None, option_map, option_and_then, Result, Ok, Err}
 use Rattle.rvt_tree.specs.declared.places.Place.{Place}
 use Rattle.rvt_tree.specs.declared.places.Refusal.{Refusal}
 use Rattle.rvt_tree.specs.declared.places.Fault.{Fault}
 use Rattle.rvt_tree.specs.declared.places.Fault.TheVariants as F
 use Rattle.rvt_tree.specs.declared.programs.Program.{Program}
-use Rattle.rvt_tree.specs.declared.expressions.Variable.{Variable}
 use Rattle.rvt_tree.specs.declared.expressions.Variable.TheVariants as V
 use Rattle.c_types.specs.Layout.{Shape, AWord}
 use Rattle.c_syntax.specs.Syntax as s

@@ -1,12 +1,12 @@
 -- Enums (C 6.7.2.2): their constants are numbers of `int`, and their types are `int`.
-use Rattle.std.specs.Prelude.{ℕ, List, [], ◌∷◌, Bool, ◌||◌, if◌then◌else◌, Option, Some, None, ℤ, pos, ◌+ℤ◌, int_lt, is_some}
+use Rattle.std.specs.Prelude.{List, [], ◌∷◌, Bool, ◌||◌, if◌then◌else◌, Option, Some, None, ℤ, pos, ◌+ℤ◌, int_lt, is_some}
 use Rattle.rvt_num.specs.Kinds.{least, greatest}
 use Rattle.rvt_num.specs.declared.kinds.Kind.TheVariants.{I32}
 use Rattle.c_types.specs.Layout.{AWord}
 use Rattle.c_syntax.specs.Syntax as s
 use Rattle.c_syntax.specs.declared.bases.Word.{Word}
 use Rattle.expression_typing.specs.Expressions.{constant}
-use Rattle.expression_typing.specs.Entities.{a_constant, a_type, QualifiedType, enum_tag, tag_in}
+use Rattle.expression_typing.specs.Entities.{a_constant, a_type, enum_tag, tag_in}
 use Rattle.expression_typing.specs.Outcomes.{Checking, give, broken, and_then, declared_twice, wrong_type}
 use Rattle.file_typing.specs.Blocks.{unless_declared}
 use Rattle.file_typing.specs.FileScope.{FileScope, scope_of_file, with_name, with_tag}

@@ -1,19 +1,19 @@
 -- Functions and their parameters (C 6.7.6.3).
-use Rattle.std.specs.Prelude.{ℕ, List, [], ◌∷◌, ◌++◌, map, length, count_by, set, nat_le, Bool, true, false, ◌&&◌, if◌then◌else◌, Option, Some, None, is_some, unwrap_or, slice_get}
+use Rattle.std.specs.Prelude.{ℕ, List, [], ◌∷◌, ◌++◌, map, count_by, set, nat_le, Bool, true, false, ◌&&◌, if◌then◌else◌, Option, Some, None, is_some, unwrap_or, slice_get}
 use Rattle.rvt_num.specs.declared.kinds.Kind.{Kind}
 use Rattle.rvt_tree.specs.declared.places.Place.{Place}
 use Rattle.c_types.specs.Layout.{Shape, same_shape, same_kind}
 use Rattle.c_syntax.specs.Syntax as s
 use Rattle.c_syntax.specs.declared.bases.Word.{Word}
-use Rattle.expression_typing.specs.Entities.{Binding, Entity, a_local, an_object, a_function, a_constant, the_null, a_typedef, in_scope}
+use Rattle.expression_typing.specs.Entities.{Entity, a_local, an_object, a_function, a_constant, the_null, a_typedef, in_scope}
 use Rattle.expression_typing.specs.Limits.{most_functions}
 use Rattle.expression_typing.specs.Outcomes.{Checking, Made, give, broken, and_then, declared_twice, wrong_type, beyond_a_limit}
-use Rattle.expression_typing.specs.Progress.{Notes, Local}
+use Rattle.expression_typing.specs.Progress.{Local}
 use Rattle.expression_typing.specs.Expressions.{lengths}
 use Rattle.expression_typing.specs.TypeNames.{base_type, pointed}
 use Rattle.file_typing.specs.Blocks.{Block, scope_of, with_binding, unless_declared}
 use Rattle.file_typing.specs.DeclaratorTypes.{as_parameter, ValueType, declared_type, value_type, adjusted}
-use Rattle.file_typing.specs.FileScope.{FileScope, FunctionEntry, Interface, undeclared, structures, function_number, with_name, with_functions}
+use Rattle.file_typing.specs.FileScope.{FileScope, FunctionEntry, Interface, undeclared, function_number, with_name, with_functions}
 use Rattle.file_typing.specs.FunctionNotes.{numbered}
 
 -- ---- parameters

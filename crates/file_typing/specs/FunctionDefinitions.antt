@@ -1,12 +1,11 @@
 -- Prototypes and definitions of functions (C 6.9.1).
-use Rattle.std.specs.Prelude.{ℕ, List, [], Bool, true, false, if◌then◌else◌, Option, Some, None, is_some}
+use Rattle.std.specs.Prelude.{ℕ, [], Bool, true, false, if◌then◌else◌, Option, Some, is_some}
 use Rattle.rvt_num.specs.declared.kinds.Kind.{Kind}
 use Rattle.rvt_tree.specs.Syntax as t
 use Rattle.c_syntax.specs.Syntax as s
 use Rattle.c_syntax.specs.declared.bases.Word.{Word}
 use Rattle.expression_typing.specs.Entities.{QualifiedType, in_scope}
 use Rattle.expression_typing.specs.Outcomes.{Checking, Made, give, broken, and_then, noting, declared_twice}
-use Rattle.expression_typing.specs.Progress.{Notes}
 use Rattle.file_typing.specs.Blocks.{Block}
 use Rattle.file_typing.specs.DeclaratorTypes.{result_kind}
 use Rattle.file_typing.specs.FileScope.{FileScope, FunctionEntry, Interface, Body, structures}

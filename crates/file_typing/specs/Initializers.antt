@@ -1,5 +1,5 @@
 -- Initializers (C 6.7.9), and the contents that they give to an object (C 6.7.9, 6.9.2).
-use Rattle.std.specs.Prelude.{ℕ, zero, suc, nat_eq, nat_lt, List, [], ◌∷◌, ◌++◌, take, drop, if◌then◌else◌, Option, Some, None, option_map, unwrap_or, slice_get}
+use Rattle.std.specs.Prelude.{ℕ, suc, nat_lt, List, ◌∷◌, ◌++◌, take, drop, if◌then◌else◌, Option, Some, None, option_map, unwrap_or, slice_get}
 use Rattle.rvt_num.specs.Number.{Number}
 use Rattle.rvt_num.specs.declared.kinds.Kind.{Kind}
 use Rattle.rvt_num.specs.declared.values.Value.{Value}
@@ -8,7 +8,7 @@ use Rattle.rvt_tree.specs.declared.places.Place.{Place}
 use Rattle.rvt_tree.specs.Syntax as t
 use Rattle.c_types.specs.Layout.{Shape, AWord, APointer, AnArray, AStruct}
 use Rattle.c_syntax.specs.Syntax as s
-use Rattle.expression_typing.specs.Entities.{Scope, Structure, Field, cells_of, fields_of}
+use Rattle.expression_typing.specs.Entities.{Scope, Structure, cells_of, fields_of}
 use Rattle.expression_typing.specs.Outcomes.{Checking, give, broken, and_then, wanted, wrong_type, constant_wanted}
 use Rattle.expression_typing.specs.Expressions.{value_as}
 use Rattle.expression_typing.specs.FirstTokens.{first_token}

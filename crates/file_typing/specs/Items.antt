@@ -1,5 +1,5 @@
 -- The items of a file, in order (C 6.9).
-use Rattle.std.specs.Prelude.{List, [], ◌∷◌, ◌++◌, Bool, Option, Some, None}
+use Rattle.std.specs.Prelude.{List, [], ◌∷◌, Option, Some, None}
 use Rattle.c_syntax.specs.Syntax as s
 use Rattle.c_syntax.specs.declared.bases.Base.{Base}
 use Rattle.c_syntax.specs.declared.bases.Specifier.{Specifier}

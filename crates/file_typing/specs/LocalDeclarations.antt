@@ -3,7 +3,7 @@ use Rattle.std.specs.Prelude.{ℕ, List, [], ◌∷◌, ◌++◌, Option, Some, 
 use Rattle.rvt_tree.specs.declared.expressions.Variable.TheVariants as V
 use Rattle.rvt_tree.specs.Syntax as t
 use Rattle.c_syntax.specs.Syntax as s
-use Rattle.expression_typing.specs.Entities.{Entity, a_local, QualifiedType, Structure, cells_of}
+use Rattle.expression_typing.specs.Entities.{a_local, QualifiedType, Structure}
 use Rattle.expression_typing.specs.Outcomes.{Checking, give, and_then}
 use Rattle.expression_typing.specs.Progress.{Local}
 use Rattle.expression_typing.specs.TypeNames.{base_type}

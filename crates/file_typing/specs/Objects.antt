@@ -1,6 +1,5 @@
 -- Objects of the file (C 6.7, 6.9.2).
-use Rattle.std.specs.Prelude.{ℕ, ◌+◌, List, [], ◌∷◌, ◌++◌, map, length, nat_lt, nat_le, Bool, false, ◌&&◌, if◌then◌else◌, Option, Some, None, pos}
-use Rattle.rvt_num.specs.declared.kinds.Kind.{Kind}
+use Rattle.std.specs.Prelude.{ℕ, ◌+◌, List, [], ◌∷◌, ◌++◌, map, length, nat_lt, nat_le, false, ◌&&◌, if◌then◌else◌, Option, Some, None, pos}
 use Rattle.rvt_num.specs.declared.values.Value.{Value}
 use Rattle.rvt_num.specs.declared.values.Value.TheVariants.{Num}
 use Rattle.rvt_tree.specs.declared.places.Place.{Place}
@@ -10,7 +9,7 @@ use Rattle.c_syntax.specs.declared.bases.Word.{Word}
 use Rattle.expression_typing.specs.Entities.{QualifiedType, an_object}
 use Rattle.expression_typing.specs.Limits.{most_objects, most_cells_of_objects}
 use Rattle.expression_typing.specs.Outcomes.{Checking, Made, Broken, give, and_then, beyond_a_limit}
-use Rattle.expression_typing.specs.Progress.{Notes, with_object}
+use Rattle.expression_typing.specs.Progress.{with_object}
 use Rattle.file_typing.specs.Blocks.{unless_declared}
 use Rattle.file_typing.specs.DeclaratorTypes.{as_object, ValueType, type_of_declarator}
 use Rattle.file_typing.specs.FileScope.{FileScope, StructEntry, structures, scope_of_file, with_name, with_objects}

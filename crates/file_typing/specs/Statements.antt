@@ -1,7 +1,6 @@
 -- Statements (C 6.8): what each becomes, and which rule it breaks first.
 use Rattle.std.specs.Prelude.{ℕ, List, [], ◌∷◌, ◌++◌, codes, Bool, true, false, ◌||◌, if◌then◌else◌, Option, Some, None}
 use Rattle.std.specs.List.{list_any}
-use Rattle.rvt_num.specs.Number.{Number}
 use Rattle.rvt_num.specs.Kinds.{promoted_kind}
 use Rattle.rvt_num.specs.Operations.{int_eq}
 use Rattle.rvt_num.specs.declared.kinds.Kind.{Kind}

@@ -3,12 +3,10 @@ use Rattle.std.specs.Prelude.{ℕ, suc, ◌+◌, List, [], ◌∷◌, ◌++◌, 
 use Rattle.std.specs.List.{list_any, repeat}
 use Rattle.std.specs.Str.{bytes_eq}
 use Rattle.rvt_num.specs.declared.kinds.Kind.{Kind}
-use Rattle.rvt_num.specs.declared.kinds.Kind.TheVariants.{I32}
-use Rattle.rvt_tree.specs.declared.places.Place.{Place}
 use Rattle.c_types.specs.Layout.{Shape, AWord, APointer, AnArray, AStruct}
 use Rattle.c_syntax.specs.Syntax as s
 use Rattle.c_syntax.specs.declared.bases.Word.{Word}
-use Rattle.expression_typing.specs.Entities.{QualifiedType, a_type, Structure, Field, Tagged, struct_tag, enum_tag, tag_in, cells_of}
+use Rattle.expression_typing.specs.Entities.{QualifiedType, a_type, Field, Tagged, struct_tag, enum_tag, tag_in}
 use Rattle.expression_typing.specs.Limits.{most_cells_of_a_type}
 use Rattle.expression_typing.specs.Outcomes.{Checking, give, broken, and_then, declared_twice, too_many_cells, wrong_type}
 use Rattle.expression_typing.specs.Expressions.{lengths}
