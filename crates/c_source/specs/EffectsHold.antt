@@ -5,7 +5,7 @@ use Rattle.stack_effects.specs.Effects.{Effects, balances}
 use Rattle.c_grammar.specs.declared.grammar.Action.{Action}
 use Rattle.c_grammar.specs.declared.grammar.Line.{Line}
 use Rattle.c_grammar.specs.Grammar.{rules, table, lines, number, first, follow, empty, classes, all_lines, line_number}
-use Rattle.c_source.specs.StackEffects.{Stack, Kept, Expressions, Arguments, Types, Bases, Pointers, Dimensions, Declarators, Parameters, Statements, Declarations, Values, Braced, Parts, Actions, Starts, Tests, Steps, Groups, Labels, Label, stacks, taken, given, needed, left}
+use Rattle.c_source.specs.StackEffects.{Stack, Kept, Expressions, Arguments, Types, Bases, Pointers, Dimensions, Declarators, Parameters, Statements, Declarations, Initializers, Braced, Parts, Actions, Starts, Tests, Steps, Groups, Labels, Label, stacks, taken, given, needed, left}
 
 unfoldable pub stack_number : Stack → ℕ
 stack_number Kept = 0
@@ -19,7 +19,7 @@ stack_number Declarators = 7
 stack_number Parameters = 8
 stack_number Statements = 9
 stack_number Declarations = 10
-stack_number Values = 11
+stack_number Initializers = 11
 stack_number Braced = 12
 stack_number Parts = 13
 stack_number Actions = 14
@@ -56,7 +56,7 @@ stack_at Declarators = refl
 stack_at Parameters = refl
 stack_at Statements = refl
 stack_at Declarations = refl
-stack_at Values = refl
+stack_at Initializers = refl
 stack_at Braced = refl
 stack_at Parts = refl
 stack_at Actions = refl

@@ -18,7 +18,7 @@ pub data Stack : Type 0 where
   Parameters : Stack
   Statements : Stack
   Declarations : Stack
-  Values : Stack
+  Initializers : Stack
   Braced : Stack
   Parts : Stack
   Actions : Stack
@@ -31,7 +31,7 @@ pub data Stack : Type 0 where
 
 abbrev pub stacks : List Stack
 stacks =
-    Kept ∷ Expressions ∷ Arguments ∷ Types ∷ Bases ∷ Pointers ∷ Dimensions ∷ Declarators ∷ Parameters ∷ Statements ∷ Declarations ∷ Values ∷ Braced ∷ Parts ∷ Actions ∷ Starts ∷ Tests ∷ Steps ∷ Groups ∷ Labels ∷ Label ∷ []
+    Kept ∷ Expressions ∷ Arguments ∷ Types ∷ Bases ∷ Pointers ∷ Dimensions ∷ Declarators ∷ Parameters ∷ Statements ∷ Declarations ∷ Initializers ∷ Braced ∷ Parts ∷ Actions ∷ Starts ∷ Tests ∷ Steps ∷ Groups ∷ Labels ∷ Label ∷ []
 
 -- an action takes a value from each of these
 unfoldable pub taken : Action → List Stack
@@ -73,12 +73,12 @@ taken action.NoParts = []
 taken action.AddLocal = Declarations ∷ Parts ∷ []
 taken action.AddStmt = Statements ∷ Parts ∷ []
 taken action.Block = Kept ∷ Parts ∷ []
-taken action.InitWith = Declarators ∷ Values ∷ []
+taken action.InitWith = Declarators ∷ Initializers ∷ []
 taken action.InitBare = Declarators ∷ []
 taken action.Declaration = Bases ∷ []
 taken action.CondValue = Expressions ∷ []
 taken action.NoValues = []
-taken action.AddValue = Values ∷ Braced ∷ []
+taken action.AddValue = Initializers ∷ Braced ∷ []
 taken action.Braces = Kept ∷ Braced ∷ []
 taken action.Empty = []
 taken action.ActStmt = Actions ∷ []
@@ -171,10 +171,10 @@ given action.Block = Statements ∷ []
 given action.InitWith = []
 given action.InitBare = []
 given action.Declaration = Declarations ∷ []
-given action.CondValue = Values ∷ []
+given action.CondValue = Initializers ∷ []
 given action.NoValues = Braced ∷ []
 given action.AddValue = Braced ∷ []
-given action.Braces = Values ∷ []
+given action.Braces = Initializers ∷ []
 given action.Empty = Statements ∷ []
 given action.ActStmt = Statements ∷ []
 given action.Break = Statements ∷ []
@@ -410,9 +410,9 @@ left line.Local = Declarations ∷ []
 left line.Init = []
 left line.InitValue = []
 left line.MoreInits = Declarations ∷ []
-left line.Value = Values ∷ []
-left line.MoreValues = Values ∷ []
-left line.ValuesNext = Values ∷ []
+left line.Value = Initializers ∷ []
+left line.MoreValues = Initializers ∷ []
+left line.ValuesNext = Initializers ∷ []
 left line.Stmt = Statements ∷ []
 left line.IfStmt = Statements ∷ []
 left line.ElsePart = Statements ∷ []
