@@ -3,5 +3,6 @@ mod Lists
 mod TokenTexts
 mod Keys
 mod Facts
+mod Refusals
 mod Closed
 mod Rest
