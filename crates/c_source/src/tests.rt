@@ -77,7 +77,10 @@ const UNEXPECTED: &[(&[u8], &[u8])] = &[
     (b"void f(int i) { while (i@--) ; }", b"--"),
     (b"int x, @int y;", b"int"),
     (b"int f(void) { return sizeof (int)@[3]; }", b"["),
-    (b"struct s { int a; }; void f(void) { (struct s)@{ 1 }; }", b"{"),
+    (
+        b"struct s { int a; }; void f(void) { (struct s)@{ 1 }; }",
+        b"{",
+    ),
     (b"extern int x@;", b";"),
     (b"@register int x;", b"register"),
     (b"void f(void) { @inline int x; }", b"inline"),
@@ -146,9 +149,11 @@ fn is_refused_at(alloc: Global, text: &[u8], cause: u16, word: &[u8]) -> Result<
     match read(alloc, &plain) {
         Ok(_) => Ok(false),
         Err(Refused::Memory) => Ok(false),
-        Err(Refused::Source(refusal)) => Ok(refusal.cause == cause
-            && refusal.place == Place { line: 1, column }
-            && refusal.word.is(word)),
+        Err(Refused::Source(refusal)) => Ok(
+            refusal.cause == cause
+                && refusal.place == Place { line: 1, column }
+                && refusal.word.is(word),
+        ),
     }
 }
 
@@ -180,7 +185,13 @@ fn tokens_that_are_left_out(rt: HostRuntime) -> Result<(), Fail> {
 }
 
 // `front`, so many times `part`, and `back`.
-fn repeated(alloc: Global, front: &[u8], part: &[u8], times: usize, back: &[u8]) -> Result<Vec<u8>, Fail> {
+fn repeated(
+    alloc: Global,
+    front: &[u8],
+    part: &[u8],
+    times: usize,
+    back: &[u8],
+) -> Result<Vec<u8>, Fail> {
     let mut text = Vec::new(alloc);
     text.extend_from_slice(front)?;
     for _ in 0..times {
@@ -197,13 +208,35 @@ fn levels(rt: HostRuntime) -> Result<(), Fail> {
     let open = repeated(alloc, b"int f(int x) { return ", b"(", 99, b"x")?;
     assert!(rt; is_read(alloc, &repeated(alloc, &open, b")", 99, b"; }")?));
     let deeper = repeated(alloc, b"int f(int x) { return ", b"(", 99, b"@(x")?;
-    assert!(rt; is_refused_at(alloc, &repeated(alloc, &deeper, b")", 100, b"; }")?, 12, b"(")?);
-    assert!(rt; is_read(alloc, &repeated(alloc, b"int f(int x) { return x", b"+x", 99, b"; }")?));
+    assert!(rt;
+        is_refused_at(
+            alloc,
+            &repeated(alloc, &deeper, b")", 100, b"; }")?,
+            12,
+            b"("
+        )?
+    );
+    assert!(rt;
+        is_read(
+            alloc,
+            &repeated(alloc, b"int f(int x) { return x", b"+x", 99, b"; }")?
+        )
+    );
     let sums = repeated(alloc, b"int f(int x) { return x", b"+x", 99, b"@+x; }")?;
     assert!(rt; is_refused_at(alloc, &sums, 12, b"+")?);
     // suffixes and casts open no level that stays open
-    assert!(rt; is_read(alloc, &repeated(alloc, b"int f(int x) { return x", b".f", 1000, b"; }")?));
-    assert!(rt; is_read(alloc, &repeated(alloc, b"int f(int x) { return ", b"(int)", 1000, b"x; }")?));
+    assert!(rt;
+        is_read(
+            alloc,
+            &repeated(alloc, b"int f(int x) { return x", b".f", 1000, b"; }")?
+        )
+    );
+    assert!(rt;
+        is_read(
+            alloc,
+            &repeated(alloc, b"int f(int x) { return ", b"(int)", 1000, b"x; }")?
+        )
+    );
     Ok(())
 }
 

@@ -64,18 +64,20 @@ file =
 
 abbrev pub struct_s : Structure
 struct_s = record {
-    fields = record { name = codes "i"; type = an_int; number = 0; cell = 0 } ∷ record { name = codes "b"; type = AnArray an_int 2; number = 1; cell = 1 } ∷ [];
-    cells = Some 3 }
+  fields = record { name = codes "i"; type = an_int; number = 0; cell = 0 } ∷ record { name = codes "b"; type = AnArray an_int 2; number = 1; cell = 1 } ∷ [];
+  cells = Some 3;
+}
 
 abbrev pub struct_t : Structure
 struct_t = record { fields = []; cells = None }
 
 abbrev pub scene : Scope
 scene = record {
-    names = locals ++ file ++ built_in_names;
-    tags = record { name = codes "S"; tagged = struct_tag 0 } ∷ record { name = codes "T"; tagged = struct_tag 1 } ∷ record { name = codes "E"; tagged = enum_tag } ∷ [];
-    structs = struct_s ∷ struct_t ∷ [];
-    evaluated = true }
+  names = locals ++ file ++ built_in_names;
+  tags = record { name = codes "S"; tagged = struct_tag 0 } ∷ record { name = codes "T"; tagged = struct_tag 1 } ∷ record { name = codes "E"; tagged = enum_tag } ∷ [];
+  structs = struct_s ∷ struct_t ∷ [];
+  evaluated = true;
+}
 
 abbrev pub local : List ℕ → ℕ → Shape → ℕ → Local
 local name number type cells = record { name = name; place = declared_at number; type = type; cells = cells; constant = false }
@@ -83,10 +85,15 @@ local name number type cells = record { name = name; place = declared_at number;
 -- the locals that some example takes the address of have their own cells here
 abbrev pub start : Notes
 start = record {
-    locals = local (codes "x") 0 an_int 1 ∷ local (codes "u") 1 (AWord U32) 1 ∷ local (codes "c") 2 (AWord U8) 1 ∷ local (codes "p") 3 int_pointer 1 ∷
-        local (codes "q") 4 int_pointer 1 ∷ local (codes "a") 5 (AnArray an_int 3) 3 ∷ local (codes "m") 6 (AnArray (AnArray an_int 3) 2) 6 ∷
-        local (codes "k") 7 an_int 1 ∷ local (codes "s") 8 (AStruct 0) 3 ∷ [];
-    calls = []; taken = []; loops = 0; objects = 1; cells = 1 }
+  locals = local (codes "x") 0 an_int 1 ∷ local (codes "u") 1 (AWord U32) 1 ∷ local (codes "c") 2 (AWord U8) 1 ∷ local (codes "p") 3 int_pointer 1 ∷
+      local (codes "q") 4 int_pointer 1 ∷ local (codes "a") 5 (AnArray an_int 3) 3 ∷ local (codes "m") 6 (AnArray (AnArray an_int 3) 2) 6 ∷
+      local (codes "k") 7 an_int 1 ∷ local (codes "s") 8 (AStruct 0) 3 ∷ [];
+  calls = [];
+  taken = [];
+  loops = 0;
+  objects = 1;
+  cells = 1;
+}
 
 -- ---- what comes of a phrase
 

@@ -37,8 +37,10 @@ only_taken : (entry : FunctionEntry) (body : Body) (taken : Taken) → entry.bod
 only_taken entry body taken its_body one number place takes = ap (λ taken. taken.place) same_taken where
   same_entry : entry ≡ takes.entry
   same_entry = only_one number takes.is_there
+
   same_body : body ≡ takes.body
   same_body = the_body (sym its_body ∙ ap (λ entry. entry.body) same_entry ∙ takes.its_body)
+
   same_taken : taken ≡ record { variable = V.Local takes.local; place = place }
   same_taken = only_one takes.k (moved takes.k (sym one ∙ ap (λ body. body.taken) same_body) takes.taken)
 
@@ -65,27 +67,29 @@ nothing = is_program {file = beginning []} {notes = nothing_noted} refl refl non
 abbrev calls_itself : List s.ExternalItem
 calls_itself =
     s.function_definition (alone (base 1 (B.Words (T.Int ∷ [])))) (word (codes "f") 5)
-      (s.parameters (parameter_of (base 7 (B.Words (T.Int ∷ []))) (Some (star 11)) (Some (word (codes "p") 12)) s.no_dimensions ∷ []))
-      (s.compound (at 15)
-          (s.block_of
-              ((s.local_declaration
-                      (local (base 17 (B.Words (T.Int ∷ []))) (set_to (plain (word (codes "x") 21)) (s.initial_value (int 0 25)) ∷ []))) ∷
-                  (s.inner_statement
-                      (s.return_value (at 28)
-                          (s.call (word (codes "f") 35) (s.arguments_of ((s.unary P.Address (at 37) (s.identifier (word (codes "x") 38))) ∷ []))))) ∷
-                  []))) ∷
+    (s.parameters (parameter_of (base 7 (B.Words (T.Int ∷ []))) (Some (star 11)) (Some (word (codes "p") 12)) s.no_dimensions ∷ []))
+    (s.compound (at 15)
+    (s.block_of
+    ((s.local_declaration
+    (local (base 17 (B.Words (T.Int ∷ []))) (set_to (plain (word (codes "x") 21)) (s.initial_value (int 0 25)) ∷ []))) ∷
+    (s.inner_statement
+    (s.return_value (at 28)
+    (s.call (word (codes "f") 35) (s.arguments_of ((s.unary P.Address (at 37) (s.identifier (word (codes "x") 38))) ∷ []))))) ∷
+    []))) ∷
     []
 
 address_taken : IsAddressOnCycle (file_of (whole_file calls_itself)).functions (at 37)
-address_taken =
-    (0, record { entry = _; is_there = refl; body = _; its_body = refl; local = 1; k = 0; taken = refl },
-    (0, record { successors = 0 ∷ []; is_there = refl; place = 0; leads = refl }, here))
+address_taken = (
+  0,
+  record { entry = _; is_there = refl; body = _; its_body = refl; local = 1; k = 0; taken = refl },
+  (0, record { successors = 0 ∷ []; is_there = refl; place = 0; leads = refl }, here),
+)
 
 first_address : IsFirstAddressOnCycle (file_of (whole_file calls_itself)).functions (at 37)
 first_address =
     record {
       there = address_taken;
-      first = λ other h. not_behind_itself (only_taken _ _ _ refl refl h.0 other h.1)
+      first = λ other h. not_behind_itself (only_taken _ _ _ refl refl h.0 other h.1);
     }
 
 on_cycle : Elaborated calls_itself (Err (record { cause = address_on_a_call_cycle; place = at 37 }))

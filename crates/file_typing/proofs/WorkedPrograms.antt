@@ -66,300 +66,317 @@ nothing = refl
 -- int f(int n){ if (n <= 1) return 1; return n * f(n - 1); }
 factorial : program (
     s.function_definition (alone (base 1 (B.Words (T.Int ∷ [])))) (word (codes "f") 5)
-      (s.parameters (parameter (base 7 (B.Words (T.Int ∷ []))) (word (codes "n") 11) ∷ []))
-      (s.compound (at 13)
-          (s.block_of
-              ((s.inner_statement
-                      (s.if_statement (at 15)
-                          (s.binary I.LessEqual (at 21) (s.identifier (word (codes "n") 19)) (int 1 24))
-                          (s.return_value (at 27) (int 1 34)))) ∷
-                  (s.inner_statement
-                      (s.return_value (at 37)
-                          (s.binary I.Multiply (at 46) (s.identifier (word (codes "n") 44))
-                              (s.call (word (codes "f") 48)
-                                  (s.arguments_of ((s.binary I.Subtract (at 52) (s.identifier (word (codes "n") 50)) (int 1 54)) ∷ [])))))) ∷
-                  []))) ∷
+    (s.parameters (parameter (base 7 (B.Words (T.Int ∷ []))) (word (codes "n") 11) ∷ []))
+    (s.compound (at 13)
+    (s.block_of
+    ((s.inner_statement
+    (s.if_statement (at 15)
+    (s.binary I.LessEqual (at 21) (s.identifier (word (codes "n") 19)) (int 1 24))
+    (s.return_value (at 27) (int 1 34)))) ∷
+    (s.inner_statement
+    (s.return_value (at 37)
+    (s.binary I.Multiply (at 46) (s.identifier (word (codes "n") 44))
+    (s.call (word (codes "f") 48)
+    (s.arguments_of ((s.binary I.Subtract (at 52) (s.identifier (word (codes "n") 50)) (int 1 54)) ∷ [])))))) ∷
+    []))) ∷
     []) ≡
     Some
-      (record {
-          structs = [];
-          functions = record {
-              name = codes "f";
-              params = an_int_local (codes "n") None ∷ [];
-              result = Some (AWord I32);
-              locals = [];
-              body = Some
-                (block
-                    ((t.if_statement (t.binary O.Le (read 0) (number 1)) (t.return_value (number 1))) ∷
-                        (t.return_value (t.binary O.Mul (read 0) (t.call 0 (arguments ((t.binary O.Sub (read 0) (number 1)) ∷ []))))) ∷
-                        [])) } ∷
-            [];
-          objects = [] })
+    (record {
+      structs = [];
+      functions = record {
+        name = codes "f";
+        params = an_int_local (codes "n") None ∷ [];
+        result = Some (AWord I32);
+        locals = [];
+        body = Some
+            (block
+            ((t.if_statement (t.binary O.Le (read 0) (number 1)) (t.return_value (number 1))) ∷
+            (t.return_value (t.binary O.Mul (read 0) (t.call 0 (arguments ((t.binary O.Sub (read 0) (number 1)) ∷ []))))) ∷
+            []));
+      } ∷
+          [];
+      objects = [];
+    })
 factorial = refl
 
 -- int f(int n){ int s = 0; int i; for (i = 0; i < n; i++) s += i; return s; }
 sum_below : program (
     s.function_definition (alone (base 1 (B.Words (T.Int ∷ [])))) (word (codes "f") 5)
-      (s.parameters (parameter (base 7 (B.Words (T.Int ∷ []))) (word (codes "n") 11) ∷ []))
-      (s.compound (at 13)
-          (s.block_of
-              ((s.local_declaration
-                      (local (base 15 (B.Words (T.Int ∷ []))) (set_to (plain (word (codes "s") 19)) (s.initial_value (int 0 23)) ∷ []))) ∷
-                  (s.local_declaration (local (base 26 (B.Words (T.Int ∷ []))) (bare (plain (word (codes "i") 30)) ∷ []))) ∷
-                  (s.inner_statement
-                      (s.for_loop (at 33)
-                          (s.starts_with_actions ((s.assign Se.Plain (at 40) (s.identifier (word (codes "i") 38)) (int 0 42)) ∷ []))
-                          (Some (s.binary I.Less (at 47) (s.identifier (word (codes "i") 45)) (s.identifier (word (codes "n") 49))))
-                          ((s.step_after St.Up (at 53) (s.identifier (word (codes "i") 52))) ∷ [])
-                          (s.action (s.assign Se.Add (at 59) (s.identifier (word (codes "s") 57)) (s.identifier (word (codes "i") 62)))))) ∷
-                  (s.inner_statement (s.return_value (at 65) (s.identifier (word (codes "s") 72)))) ∷
-                  []))) ∷
+    (s.parameters (parameter (base 7 (B.Words (T.Int ∷ []))) (word (codes "n") 11) ∷ []))
+    (s.compound (at 13)
+    (s.block_of
+    ((s.local_declaration
+    (local (base 15 (B.Words (T.Int ∷ []))) (set_to (plain (word (codes "s") 19)) (s.initial_value (int 0 23)) ∷ []))) ∷
+    (s.local_declaration (local (base 26 (B.Words (T.Int ∷ []))) (bare (plain (word (codes "i") 30)) ∷ []))) ∷
+    (s.inner_statement
+    (s.for_loop (at 33)
+    (s.starts_with_actions ((s.assign Se.Plain (at 40) (s.identifier (word (codes "i") 38)) (int 0 42)) ∷ []))
+    (Some (s.binary I.Less (at 47) (s.identifier (word (codes "i") 45)) (s.identifier (word (codes "n") 49))))
+    ((s.step_after St.Up (at 53) (s.identifier (word (codes "i") 52))) ∷ [])
+    (s.action (s.assign Se.Add (at 59) (s.identifier (word (codes "s") 57)) (s.identifier (word (codes "i") 62)))))) ∷
+    (s.inner_statement (s.return_value (at 65) (s.identifier (word (codes "s") 72)))) ∷
+    []))) ∷
     []) ≡
     Some
-      (record {
-          structs = [];
-          functions = record {
-              name = codes "f";
-              params = an_int_local (codes "n") None ∷ [];
-              result = Some (AWord I32);
-              locals = an_int_local (codes "s") None ∷ an_int_local (codes "i") None ∷ [];
-              body = Some
-                (block
-                    ((t.declaration_with (V.Local 1) (t.initial_value (number 0))) ∷
-                        (t.declaration (V.Local 2)) ∷
-                        (t.for_loop 1 (statements_of (t.action (t.assign (local_place 2) (number 0)) ∷ []))
-                            (Some (t.binary O.Lt (read 2) (read 0)))
-                            (t.step UpAfter (local_place 2) ∷ [])
-                            (t.action (t.compound_assign O.Add (local_place 1) I32 (read 2)))) ∷
-                        (t.return_value (read 1)) ∷
-                        [])) } ∷
-            [];
-          objects = [] })
+    (record {
+      structs = [];
+      functions = record {
+        name = codes "f";
+        params = an_int_local (codes "n") None ∷ [];
+        result = Some (AWord I32);
+        locals = an_int_local (codes "s") None ∷ an_int_local (codes "i") None ∷ [];
+        body = Some
+            (block
+            ((t.declaration_with (V.Local 1) (t.initial_value (number 0))) ∷
+            (t.declaration (V.Local 2)) ∷
+            (t.for_loop 1 (statements_of (t.action (t.assign (local_place 2) (number 0)) ∷ []))
+            (Some (t.binary O.Lt (read 2) (read 0)))
+            (t.step UpAfter (local_place 2) ∷ [])
+            (t.action (t.compound_assign O.Add (local_place 1) I32 (read 2)))) ∷
+            (t.return_value (read 1)) ∷
+            []));
+      } ∷
+          [];
+      objects = [];
+    })
 sum_below = refl
 
 -- int odd(int n); int even(int n){ if (n == 0) return 1; return odd(n - 1); } int odd(int n){ if (n == 0) return 0; return even(n - 1); }
 -- functions are numbered in the order of their definitions
 definitions_in_order : program (
     s.function_prototype (alone (base 1 (B.Words (T.Int ∷ [])))) (word (codes "odd") 5)
-      (s.parameters (parameter (base 9 (B.Words (T.Int ∷ []))) (word (codes "n") 13) ∷ [])) ∷
+    (s.parameters (parameter (base 9 (B.Words (T.Int ∷ []))) (word (codes "n") 13) ∷ [])) ∷
     s.function_definition (alone (base 17 (B.Words (T.Int ∷ [])))) (word (codes "even") 21)
-      (s.parameters (parameter (base 26 (B.Words (T.Int ∷ []))) (word (codes "n") 30) ∷ []))
-      (s.compound (at 32)
-          (s.block_of
-              ((s.inner_statement
-                      (s.if_statement (at 34)
-                          (s.binary I.Equal (at 40) (s.identifier (word (codes "n") 38)) (int 0 43))
-                          (s.return_value (at 46) (int 1 53)))) ∷
-                  (s.inner_statement
-                      (s.return_value (at 56)
-                          (s.call (word (codes "odd") 63)
-                              (s.arguments_of ((s.binary I.Subtract (at 69) (s.identifier (word (codes "n") 67)) (int 1 71)) ∷ []))))) ∷
-                  []))) ∷
+    (s.parameters (parameter (base 26 (B.Words (T.Int ∷ []))) (word (codes "n") 30) ∷ []))
+    (s.compound (at 32)
+    (s.block_of
+    ((s.inner_statement
+    (s.if_statement (at 34)
+    (s.binary I.Equal (at 40) (s.identifier (word (codes "n") 38)) (int 0 43))
+    (s.return_value (at 46) (int 1 53)))) ∷
+    (s.inner_statement
+    (s.return_value (at 56)
+    (s.call (word (codes "odd") 63)
+    (s.arguments_of ((s.binary I.Subtract (at 69) (s.identifier (word (codes "n") 67)) (int 1 71)) ∷ []))))) ∷
+    []))) ∷
     s.function_definition (alone (base 77 (B.Words (T.Int ∷ [])))) (word (codes "odd") 81)
-      (s.parameters (parameter (base 85 (B.Words (T.Int ∷ []))) (word (codes "n") 89) ∷ []))
-      (s.compound (at 91)
-          (s.block_of
-              ((s.inner_statement
-                      (s.if_statement (at 93)
-                          (s.binary I.Equal (at 99) (s.identifier (word (codes "n") 97)) (int 0 102))
-                          (s.return_value (at 105) (int 0 112)))) ∷
-                  (s.inner_statement
-                      (s.return_value (at 115)
-                          (s.call (word (codes "even") 122)
-                              (s.arguments_of ((s.binary I.Subtract (at 129) (s.identifier (word (codes "n") 127)) (int 1 131)) ∷ []))))) ∷
-                  []))) ∷
+    (s.parameters (parameter (base 85 (B.Words (T.Int ∷ []))) (word (codes "n") 89) ∷ []))
+    (s.compound (at 91)
+    (s.block_of
+    ((s.inner_statement
+    (s.if_statement (at 93)
+    (s.binary I.Equal (at 99) (s.identifier (word (codes "n") 97)) (int 0 102))
+    (s.return_value (at 105) (int 0 112)))) ∷
+    (s.inner_statement
+    (s.return_value (at 115)
+    (s.call (word (codes "even") 122)
+    (s.arguments_of ((s.binary I.Subtract (at 129) (s.identifier (word (codes "n") 127)) (int 1 131)) ∷ []))))) ∷
+    []))) ∷
     []) ≡
     Some
-      (record {
-          structs = [];
-          functions = record {
-              name = codes "even";
-              params = an_int_local (codes "n") None ∷ [];
-              result = Some (AWord I32);
-              locals = [];
-              body = Some
+    (record {
+      structs = [];
+      functions = record {
+        name = codes "even";
+        params = an_int_local (codes "n") None ∷ [];
+        result = Some (AWord I32);
+        locals = [];
+        body = Some
+            (block
+            ((t.if_statement (t.binary O.Eq (read 0) (number 0)) (t.return_value (number 1))) ∷
+            (t.return_value (t.call 1 (arguments ((t.binary O.Sub (read 0) (number 1)) ∷ [])))) ∷
+            []));
+      } ∷
+          record {
+            name = codes "odd";
+            params = an_int_local (codes "n") None ∷ [];
+            result = Some (AWord I32);
+            locals = [];
+            body = Some
                 (block
-                    ((t.if_statement (t.binary O.Eq (read 0) (number 0)) (t.return_value (number 1))) ∷
-                        (t.return_value (t.call 1 (arguments ((t.binary O.Sub (read 0) (number 1)) ∷ [])))) ∷
-                        [])) } ∷
-            record {
-              name = codes "odd";
-              params = an_int_local (codes "n") None ∷ [];
-              result = Some (AWord I32);
-              locals = [];
-              body = Some
-                (block
-                    ((t.if_statement (t.binary O.Eq (read 0) (number 0)) (t.return_value (number 0))) ∷
-                        (t.return_value (t.call 0 (arguments ((t.binary O.Sub (read 0) (number 1)) ∷ [])))) ∷
-                        [])) } ∷
-            [];
-          objects = [] })
+                ((t.if_statement (t.binary O.Eq (read 0) (number 0)) (t.return_value (number 0))) ∷
+                (t.return_value (t.call 0 (arguments ((t.binary O.Sub (read 0) (number 1)) ∷ [])))) ∷
+                []));
+          } ∷
+          [];
+      objects = [];
+    })
 definitions_in_order = refl
 
 -- void inc(int *p){ *p = *p + 1; } int f(int a){ int x = a; inc(&x); return x; }
 -- a local whose address is taken is an object of its function
 address_taken : program (
     s.function_definition (alone (base 1 (B.Words (T.Void ∷ [])))) (word (codes "inc") 6)
-      (s.parameters (parameter_of (base 10 (B.Words (T.Int ∷ []))) (Some (star 14)) (Some (word (codes "p") 15)) s.no_dimensions ∷ []))
-      (s.compound (at 17)
-          (s.block_of
-              ((s.inner_statement
-                      (s.action
-                          (s.assign Se.Plain (at 22) (s.unary Pre.Target (at 19) (s.identifier (word (codes "p") 20)))
-                              (s.binary I.Add (at 27) (s.unary Pre.Target (at 24) (s.identifier (word (codes "p") 25))) (int 1 29))))) ∷
-                  []))) ∷
+    (s.parameters (parameter_of (base 10 (B.Words (T.Int ∷ []))) (Some (star 14)) (Some (word (codes "p") 15)) s.no_dimensions ∷ []))
+    (s.compound (at 17)
+    (s.block_of
+    ((s.inner_statement
+    (s.action
+    (s.assign Se.Plain (at 22) (s.unary Pre.Target (at 19) (s.identifier (word (codes "p") 20)))
+    (s.binary I.Add (at 27) (s.unary Pre.Target (at 24) (s.identifier (word (codes "p") 25))) (int 1 29))))) ∷
+    []))) ∷
     s.function_definition (alone (base 34 (B.Words (T.Int ∷ [])))) (word (codes "f") 38)
-      (s.parameters (parameter (base 40 (B.Words (T.Int ∷ []))) (word (codes "a") 44) ∷ []))
-      (s.compound (at 46)
-          (s.block_of
-              ((s.local_declaration
-                      (local (base 48 (B.Words (T.Int ∷ [])))
-                          (set_to (plain (word (codes "x") 52)) (s.initial_value (s.identifier (word (codes "a") 56))) ∷ []))) ∷
-                  (s.inner_statement
-                      (s.action
-                          (s.evaluate
-                              (s.call (word (codes "inc") 59)
-                                  (s.arguments_of ((s.unary Pre.Address (at 63) (s.identifier (word (codes "x") 64))) ∷ [])))))) ∷
-                  (s.inner_statement (s.return_value (at 68) (s.identifier (word (codes "x") 75)))) ∷
-                  []))) ∷
+    (s.parameters (parameter (base 40 (B.Words (T.Int ∷ []))) (word (codes "a") 44) ∷ []))
+    (s.compound (at 46)
+    (s.block_of
+    ((s.local_declaration
+    (local (base 48 (B.Words (T.Int ∷ [])))
+    (set_to (plain (word (codes "x") 52)) (s.initial_value (s.identifier (word (codes "a") 56))) ∷ []))) ∷
+    (s.inner_statement
+    (s.action
+    (s.evaluate
+    (s.call (word (codes "inc") 59)
+    (s.arguments_of ((s.unary Pre.Address (at 63) (s.identifier (word (codes "x") 64))) ∷ [])))))) ∷
+    (s.inner_statement (s.return_value (at 68) (s.identifier (word (codes "x") 75)))) ∷
+    []))) ∷
     []) ≡
     Some
-      (record {
-          structs = [];
-          functions = record {
-              name = codes "inc";
-              params = record { name = codes "p"; shape = APointer (P.Word I32) false; constant = false; object = None } ∷ [];
-              result = None;
-              locals = [];
-              body = Some
+    (record {
+      structs = [];
+      functions = record {
+        name = codes "inc";
+        params = record { name = codes "p"; shape = APointer (P.Word I32) false; constant = false; object = None } ∷ [];
+        result = None;
+        locals = [];
+        body = Some
+            (block
+            ((t.action
+            (t.assign (t.dereference (read 0) (P.Word I32))
+            (t.binary O.Add (t.value_at (t.dereference (read 0) (P.Word I32))) (number 1)))) ∷
+            []));
+      } ∷
+          record {
+            name = codes "f";
+            params = an_int_local (codes "a") None ∷ [];
+            result = Some (AWord I32);
+            locals = an_int_local (codes "x") (Some 0) ∷ [];
+            body = Some
                 (block
-                    ((t.action
-                            (t.assign (t.dereference (read 0) (P.Word I32))
-                                (t.binary O.Add (t.value_at (t.dereference (read 0) (P.Word I32))) (number 1)))) ∷
-                        [])) } ∷
-            record {
-              name = codes "f";
-              params = an_int_local (codes "a") None ∷ [];
-              result = Some (AWord I32);
-              locals = an_int_local (codes "x") (Some 0) ∷ [];
-              body = Some
-                (block
-                    ((t.declaration_with (V.Object 0) (t.initial_value (read 0))) ∷
-                        (t.action (t.call_void 0 (arguments (t.address (object_place 0) ∷ [])))) ∷
-                        (t.return_value (t.value_at (object_place 0))) ∷
-                        [])) } ∷
-            [];
-          objects = record { name = codes "x"; shape = AWord I32; constant = false; addressable = true; owner = Some 1; initial = zero I32 ∷ [] } ∷ [] })
+                ((t.declaration_with (V.Object 0) (t.initial_value (read 0))) ∷
+                (t.action (t.call_void 0 (arguments (t.address (object_place 0) ∷ [])))) ∷
+                (t.return_value (t.value_at (object_place 0))) ∷
+                []));
+          } ∷
+          [];
+      objects = record { name = codes "x"; shape = AWord I32; constant = false; addressable = true; owner = Some 1; initial = zero I32 ∷ [] } ∷ [];
+    })
 address_taken = refl
 
 -- void h(int *p) { } void f(int a) { int b; int c; h(&c); h(&a); } int g; void k(void) { int d[2]; h(d); h(&g); }
 -- the objects of the file come first, and then the locals, by function and by declaration
 objects_in_order : program (
     s.function_definition (alone (base 1 (B.Words (T.Void ∷ [])))) (word (codes "h") 6)
-      (s.parameters (parameter_of (base 8 (B.Words (T.Int ∷ []))) (Some (star 12)) (Some (word (codes "p") 13)) s.no_dimensions ∷ []))
-      (s.compound (at 16) s.no_items) ∷
+    (s.parameters (parameter_of (base 8 (B.Words (T.Int ∷ []))) (Some (star 12)) (Some (word (codes "p") 13)) s.no_dimensions ∷ []))
+    (s.compound (at 16) s.no_items) ∷
     s.function_definition (alone (base 20 (B.Words (T.Void ∷ [])))) (word (codes "f") 25)
-      (s.parameters (parameter (base 27 (B.Words (T.Int ∷ []))) (word (codes "a") 31) ∷ []))
-      (s.compound (at 34)
-          (s.block_of
-              ((s.local_declaration (local (base 36 (B.Words (T.Int ∷ []))) (bare (plain (word (codes "b") 40)) ∷ []))) ∷
-                  (s.local_declaration (local (base 43 (B.Words (T.Int ∷ []))) (bare (plain (word (codes "c") 47)) ∷ []))) ∷
-                  (s.inner_statement
-                      (s.action
-                          (s.evaluate
-                              (s.call (word (codes "h") 50) (s.arguments_of ((s.unary Pre.Address (at 52) (s.identifier (word (codes "c") 53))) ∷ [])))))) ∷
-                  (s.inner_statement
-                      (s.action
-                          (s.evaluate
-                              (s.call (word (codes "h") 57) (s.arguments_of ((s.unary Pre.Address (at 59) (s.identifier (word (codes "a") 60))) ∷ [])))))) ∷
-                  []))) ∷
+    (s.parameters (parameter (base 27 (B.Words (T.Int ∷ []))) (word (codes "a") 31) ∷ []))
+    (s.compound (at 34)
+    (s.block_of
+    ((s.local_declaration (local (base 36 (B.Words (T.Int ∷ []))) (bare (plain (word (codes "b") 40)) ∷ []))) ∷
+    (s.local_declaration (local (base 43 (B.Words (T.Int ∷ []))) (bare (plain (word (codes "c") 47)) ∷ []))) ∷
+    (s.inner_statement
+    (s.action
+    (s.evaluate
+    (s.call (word (codes "h") 50) (s.arguments_of ((s.unary Pre.Address (at 52) (s.identifier (word (codes "c") 53))) ∷ [])))))) ∷
+    (s.inner_statement
+    (s.action
+    (s.evaluate
+    (s.call (word (codes "h") 57) (s.arguments_of ((s.unary Pre.Address (at 59) (s.identifier (word (codes "a") 60))) ∷ [])))))) ∷
+    []))) ∷
     s.object_definition (alone (base 66 (B.Words (T.Int ∷ [])))) (bare (plain (word (codes "g") 70)) ∷ []) ∷
     s.function_definition (alone (base 73 (B.Words (T.Void ∷ [])))) (word (codes "k") 78)
-      s.only_void
-      (s.compound (at 86)
-          (s.block_of
-              ((s.local_declaration
-                      (local (base 88 (B.Words (T.Int ∷ [])))
-                          (bare (declarator None (word (codes "d") 92) (s.dimensions_of (s.sized (at 93) (int 2 94) ∷ []))) ∷ []))) ∷
-                  (s.inner_statement
-                      (s.action (s.evaluate (s.call (word (codes "h") 98) (s.arguments_of ((s.identifier (word (codes "d") 100)) ∷ [])))))) ∷
-                  (s.inner_statement
-                      (s.action
-                          (s.evaluate
-                              (s.call (word (codes "h") 104)
-                                  (s.arguments_of ((s.unary Pre.Address (at 106) (s.identifier (word (codes "g") 107))) ∷ [])))))) ∷
-                  []))) ∷
+    s.only_void
+    (s.compound (at 86)
+    (s.block_of
+    ((s.local_declaration
+    (local (base 88 (B.Words (T.Int ∷ [])))
+    (bare (declarator None (word (codes "d") 92) (s.dimensions_of (s.sized (at 93) (int 2 94) ∷ []))) ∷ []))) ∷
+    (s.inner_statement
+    (s.action (s.evaluate (s.call (word (codes "h") 98) (s.arguments_of ((s.identifier (word (codes "d") 100)) ∷ [])))))) ∷
+    (s.inner_statement
+    (s.action
+    (s.evaluate
+    (s.call (word (codes "h") 104)
+    (s.arguments_of ((s.unary Pre.Address (at 106) (s.identifier (word (codes "g") 107))) ∷ [])))))) ∷
+    []))) ∷
     []) ≡
     Some
-      (record {
-          structs = [];
-          functions = record {
-              name = codes "h";
-              params = record { name = codes "p"; shape = APointer (P.Word I32) false; constant = false; object = None } ∷ [];
-              result = None;
-              locals = [];
-              body = Some (block []) } ∷
-            record {
-              name = codes "f";
-              params = an_int_local (codes "a") (Some 1) ∷ [];
-              result = None;
-              locals = an_int_local (codes "b") None ∷ an_int_local (codes "c") (Some 2) ∷ [];
-              body = Some
+    (record {
+      structs = [];
+      functions = record {
+        name = codes "h";
+        params = record { name = codes "p"; shape = APointer (P.Word I32) false; constant = false; object = None } ∷ [];
+        result = None;
+        locals = [];
+        body = Some (block []);
+      } ∷
+          record {
+            name = codes "f";
+            params = an_int_local (codes "a") (Some 1) ∷ [];
+            result = None;
+            locals = an_int_local (codes "b") None ∷ an_int_local (codes "c") (Some 2) ∷ [];
+            body = Some
                 (block
-                    ((t.declaration (V.Local 1)) ∷
-                        (t.declaration (V.Object 2)) ∷
-                        (t.action (t.call_void 0 (arguments (t.address (object_place 2) ∷ [])))) ∷
-                        (t.action (t.call_void 0 (arguments (t.address (object_place 1) ∷ [])))) ∷
-                        [])) } ∷
-            record {
-              name = codes "k";
-              params = [];
-              result = None;
-              locals = record { name = codes "d"; shape = AnArray (AWord I32) 2; constant = false; object = Some 3 } ∷ [];
-              body = Some
+                ((t.declaration (V.Local 1)) ∷
+                (t.declaration (V.Object 2)) ∷
+                (t.action (t.call_void 0 (arguments (t.address (object_place 2) ∷ [])))) ∷
+                (t.action (t.call_void 0 (arguments (t.address (object_place 1) ∷ [])))) ∷
+                []));
+          } ∷
+          record {
+            name = codes "k";
+            params = [];
+            result = None;
+            locals = record { name = codes "d"; shape = AnArray (AWord I32) 2; constant = false; object = Some 3 } ∷ [];
+            body = Some
                 (block
-                    ((t.declaration (V.Object 3)) ∷
-                        (t.action (t.call_void 0 (arguments (t.decay (object_place 3) ∷ [])))) ∷
-                        (t.action (t.call_void 0 (arguments (t.address (object_place 0) ∷ [])))) ∷
-                        [])) } ∷
-            [];
-          objects = record { name = codes "g"; shape = AWord I32; constant = false; addressable = true; owner = None; initial = zero I32 ∷ [] } ∷
-            record { name = codes "a"; shape = AWord I32; constant = false; addressable = true; owner = Some 1; initial = zero I32 ∷ [] } ∷
-            record { name = codes "c"; shape = AWord I32; constant = false; addressable = true; owner = Some 1; initial = zero I32 ∷ [] } ∷
-            record {
-              name = codes "d";
-              shape = AnArray (AWord I32) 2;
-              constant = false;
-              addressable = true;
-              owner = Some 2;
-              initial = zero I32 ∷ zero I32 ∷ [] } ∷
-            [] })
+                ((t.declaration (V.Object 3)) ∷
+                (t.action (t.call_void 0 (arguments (t.decay (object_place 3) ∷ [])))) ∷
+                (t.action (t.call_void 0 (arguments (t.address (object_place 0) ∷ [])))) ∷
+                []));
+          } ∷
+          [];
+      objects = record { name = codes "g"; shape = AWord I32; constant = false; addressable = true; owner = None; initial = zero I32 ∷ [] } ∷
+          record { name = codes "a"; shape = AWord I32; constant = false; addressable = true; owner = Some 1; initial = zero I32 ∷ [] } ∷
+          record { name = codes "c"; shape = AWord I32; constant = false; addressable = true; owner = Some 1; initial = zero I32 ∷ [] } ∷
+          record {
+            name = codes "d";
+            shape = AnArray (AWord I32) 2;
+            constant = false;
+            addressable = true;
+            owner = Some 2;
+            initial = zero I32 ∷ zero I32 ∷ [];
+          } ∷
+          [];
+    })
 objects_in_order = refl
 
 -- const int K = 3; int f(int x){ return x * K; }
 constant_object : program (
     s.object_definition (alone (constant_base 1 (B.Words (T.Int ∷ []))))
-      (set_to (plain (word (codes "K") 11)) (s.initial_value (int 3 15)) ∷ []) ∷
+    (set_to (plain (word (codes "K") 11)) (s.initial_value (int 3 15)) ∷ []) ∷
     s.function_definition (alone (base 18 (B.Words (T.Int ∷ [])))) (word (codes "f") 22)
-      (s.parameters (parameter (base 24 (B.Words (T.Int ∷ []))) (word (codes "x") 28) ∷ []))
-      (s.compound (at 30)
-          (s.block_of
-              ((s.inner_statement
-                      (s.return_value (at 32) (s.binary I.Multiply (at 41) (s.identifier (word (codes "x") 39)) (s.identifier (word (codes "K") 43))))) ∷
-                  []))) ∷
+    (s.parameters (parameter (base 24 (B.Words (T.Int ∷ []))) (word (codes "x") 28) ∷ []))
+    (s.compound (at 30)
+    (s.block_of
+    ((s.inner_statement
+    (s.return_value (at 32) (s.binary I.Multiply (at 41) (s.identifier (word (codes "x") 39)) (s.identifier (word (codes "K") 43))))) ∷
+    []))) ∷
     []) ≡
     Some
-      (record {
-          structs = [];
-          functions = record {
-              name = codes "f";
-              params = an_int_local (codes "x") None ∷ [];
-              result = Some (AWord I32);
-              locals = [];
-              body = Some (block ((t.return_value (t.binary O.Mul (read 0) (t.value_at (object_place 0)))) ∷ [])) } ∷
-            [];
-          objects = record { name = codes "K"; shape = AWord I32; constant = true; addressable = false; owner = None; initial = value I32 3 ∷ [] } ∷
-            [] })
+    (record {
+      structs = [];
+      functions = record {
+        name = codes "f";
+        params = an_int_local (codes "x") None ∷ [];
+        result = Some (AWord I32);
+        locals = [];
+        body = Some (block ((t.return_value (t.binary O.Mul (read 0) (t.value_at (object_place 0)))) ∷ []));
+      } ∷
+          [];
+      objects = record { name = codes "K"; shape = AWord I32; constant = true; addressable = false; owner = None; initial = value I32 3 ∷ [] } ∷
+          [];
+    })
 constant_object = refl
 
 -- struct A; struct B { int x; }; struct A { int y[2]; char c; }; struct A s[2] = {{{1}, 2}, {{3, 4}}}; int a[] = {5, 6};
@@ -367,175 +384,183 @@ constant_object = refl
 contents : program (
     s.tag_declaration (alone (base 1 (B.Struct (Some (word (codes "A") 8))))) ∷
     s.tag_declaration
-      (with_members (base 11 (B.Struct (Some (word (codes "B") 18))))
-          (s.fields (line (base 22 (B.Words (T.Int ∷ []))) (plain (word (codes "x") 26) ∷ []) ∷ []))) ∷
+    (with_members (base 11 (B.Struct (Some (word (codes "B") 18))))
+    (s.fields (line (base 22 (B.Words (T.Int ∷ []))) (plain (word (codes "x") 26) ∷ []) ∷ []))) ∷
     s.tag_declaration
-      (with_members (base 32 (B.Struct (Some (word (codes "A") 39))))
-          (s.fields
-              (line (base 43 (B.Words (T.Int ∷ [])))
-                    (declarator None (word (codes "y") 47) (s.dimensions_of (s.sized (at 48) (int 2 49) ∷ [])) ∷ []) ∷
-                  line (base 53 (B.Words (T.Char ∷ []))) (plain (word (codes "c") 58) ∷ []) ∷
-                  []))) ∷
+    (with_members (base 32 (B.Struct (Some (word (codes "A") 39))))
+    (s.fields
+    (line (base 43 (B.Words (T.Int ∷ [])))
+    (declarator None (word (codes "y") 47) (s.dimensions_of (s.sized (at 48) (int 2 49) ∷ [])) ∷ []) ∷
+    line (base 53 (B.Words (T.Char ∷ []))) (plain (word (codes "c") 58) ∷ []) ∷
+    []))) ∷
     s.object_definition (alone (base 64 (B.Struct (Some (word (codes "A") 71)))))
-      (set_to
-            (declarator None (word (codes "s") 73) (s.dimensions_of (s.sized (at 74) (int 2 75) ∷ [])))
-            (s.braces (at 80)
-                (s.initializers_of
-                    ((s.braces (at 81)
-                            (s.initializers_of
-                                ((s.braces (at 82) (s.initializers_of ((s.initial_value (int 1 83)) ∷ []))) ∷ (s.initial_value (int 2 87)) ∷ []))) ∷
-                        (s.braces (at 91)
-                            (s.initializers_of
-                                ((s.braces (at 92) (s.initializers_of ((s.initial_value (int 3 93)) ∷ (s.initial_value (int 4 96)) ∷ []))) ∷ []))) ∷
-                        []))) ∷
-          []) ∷
+    (set_to
+    (declarator None (word (codes "s") 73) (s.dimensions_of (s.sized (at 74) (int 2 75) ∷ [])))
+    (s.braces (at 80)
+    (s.initializers_of
+    ((s.braces (at 81)
+    (s.initializers_of
+    ((s.braces (at 82) (s.initializers_of ((s.initial_value (int 1 83)) ∷ []))) ∷ (s.initial_value (int 2 87)) ∷ []))) ∷
+    (s.braces (at 91)
+    (s.initializers_of
+    ((s.braces (at 92) (s.initializers_of ((s.initial_value (int 3 93)) ∷ (s.initial_value (int 4 96)) ∷ []))) ∷ []))) ∷
+    []))) ∷
+    []) ∷
     s.object_definition (alone (base 102 (B.Words (T.Int ∷ []))))
-      (set_to
-            (declarator None (word (codes "a") 106) (s.dimensions_of (s.unsized (at 107) ∷ [])))
-            (s.braces (at 112) (s.initializers_of ((s.initial_value (int 5 113)) ∷ (s.initial_value (int 6 116)) ∷ []))) ∷
-          []) ∷
+    (set_to
+    (declarator None (word (codes "a") 106) (s.dimensions_of (s.unsized (at 107) ∷ [])))
+    (s.braces (at 112) (s.initializers_of ((s.initial_value (int 5 113)) ∷ (s.initial_value (int 6 116)) ∷ []))) ∷
+    []) ∷
     []) ≡
     Some
-      (record {
-          structs = record { tag = codes "B"; tagged = true; complete = true; fields = (codes "x", AWord I32) ∷ [] } ∷
-            record { tag = codes "A"; tagged = true; complete = true; fields = (codes "y", AnArray (AWord I32) 2) ∷ (codes "c", AWord I8) ∷ [] } ∷
-            [];
-          functions = [];
-          objects = record {
-              name = codes "s";
-              shape = AnArray (AStruct 1) 2;
-              constant = false;
-              addressable = false;
-              owner = None;
-              initial = value I32 1 ∷ zero I32 ∷ value I8 2 ∷ value I32 3 ∷ value I32 4 ∷ zero I8 ∷ [] } ∷
-            record {
-              name = codes "a";
-              shape = AnArray (AWord I32) 2;
-              constant = false;
-              addressable = false;
-              owner = None;
-              initial = value I32 5 ∷ value I32 6 ∷ [] } ∷
-            [] })
+    (record {
+      structs = record { tag = codes "B"; tagged = true; complete = true; fields = (codes "x", AWord I32) ∷ [] } ∷
+          record { tag = codes "A"; tagged = true; complete = true; fields = (codes "y", AnArray (AWord I32) 2) ∷ (codes "c", AWord I8) ∷ [] } ∷
+          [];
+      functions = [];
+      objects = record {
+        name = codes "s";
+        shape = AnArray (AStruct 1) 2;
+        constant = false;
+        addressable = false;
+        owner = None;
+        initial = value I32 1 ∷ zero I32 ∷ value I8 2 ∷ value I32 3 ∷ value I32 4 ∷ zero I8 ∷ [];
+      } ∷
+          record {
+            name = codes "a";
+            shape = AnArray (AWord I32) 2;
+            constant = false;
+            addressable = false;
+            owner = None;
+            initial = value I32 5 ∷ value I32 6 ∷ [];
+          } ∷
+          [];
+    })
 contents = refl
 
 -- typedef struct { uint8_t buf[16]; uint8_t head; uint8_t tail; } Queue; static Queue q; bool push(uint8_t b) { uint8_t next = (q.head + 1) % 16; if (next == q.tail) return false; q.buf[q.head] = b; q.head = next; return true; }
 queue : program (
     s.type_definition
-      (with_members (base 9 (B.Struct None))
-          (s.fields
-              (line (base 18 (B.Named (word (codes "uint8_t") 18)))
-                    (declarator None (word (codes "buf") 26) (s.dimensions_of (s.sized (at 29) (int 16 30) ∷ [])) ∷ []) ∷
-                  line (base 35 (B.Named (word (codes "uint8_t") 35))) (plain (word (codes "head") 43) ∷ []) ∷
-                  line (base 49 (B.Named (word (codes "uint8_t") 49))) (plain (word (codes "tail") 57) ∷ []) ∷
-                  [])))
-      (plain (word (codes "Queue") 65) ∷ []) ∷
+    (with_members (base 9 (B.Struct None))
+    (s.fields
+    (line (base 18 (B.Named (word (codes "uint8_t") 18)))
+    (declarator None (word (codes "buf") 26) (s.dimensions_of (s.sized (at 29) (int 16 30) ∷ [])) ∷ []) ∷
+    line (base 35 (B.Named (word (codes "uint8_t") 35))) (plain (word (codes "head") 43) ∷ []) ∷
+    line (base 49 (B.Named (word (codes "uint8_t") 49))) (plain (word (codes "tail") 57) ∷ []) ∷
+    [])))
+    (plain (word (codes "Queue") 65) ∷ []) ∷
     s.object_definition (alone (base 79 (B.Named (word (codes "Queue") 79)))) (bare (plain (word (codes "q") 85)) ∷ []) ∷
     s.function_definition (alone (base 88 (B.Named (word (codes "bool") 88))))
-      (word (codes "push") 93)
-      (s.parameters (parameter (base 98 (B.Named (word (codes "uint8_t") 98))) (word (codes "b") 106) ∷ []))
-      (s.compound (at 109)
-          (s.block_of
-              ((s.local_declaration
-                      (local (base 111 (B.Named (word (codes "uint8_t") 111)))
-                          (set_to (plain (word (codes "next") 119))
-                                (s.initial_value
-                                    (s.binary I.Remainder (at 139)
-                                        (s.parenthesized (at 126)
-                                            (s.binary I.Add (at 134)
-                                                (s.postfix (s.identifier (word (codes "q") 127))
-                                                    (s.dot (at 128) (word (codes "head") 129) s.no_suffixes))
-                                                (int 1 136)))
-                                        (int 16 141))) ∷
-                              []))) ∷
-                  (s.inner_statement
-                      (s.if_statement (at 145)
-                          (s.binary I.Equal (at 154) (s.identifier (word (codes "next") 149))
-                              (s.postfix (s.identifier (word (codes "q") 157)) (s.dot (at 158) (word (codes "tail") 159) s.no_suffixes)))
-                          (s.return_value (at 165) (s.identifier (word (codes "false") 172))))) ∷
-                  (s.inner_statement
-                      (s.action
-                          (s.assign Se.Plain (at 193)
-                              (s.postfix (s.identifier (word (codes "q") 179))
-                                  (s.index (at 184)
-                                      (s.postfix (s.identifier (word (codes "q") 185)) (s.dot (at 186) (word (codes "head") 187) s.no_suffixes))
-                                      (s.dot (at 180) (word (codes "buf") 181) s.no_suffixes)))
-                              (s.identifier (word (codes "b") 195))))) ∷
-                  (s.inner_statement
-                      (s.action
-                          (s.assign Se.Plain (at 205)
-                              (s.postfix (s.identifier (word (codes "q") 198)) (s.dot (at 199) (word (codes "head") 200) s.no_suffixes))
-                              (s.identifier (word (codes "next") 207))))) ∷
-                  (s.inner_statement (s.return_value (at 213) (s.identifier (word (codes "true") 220)))) ∷
-                  []))) ∷
+    (word (codes "push") 93)
+    (s.parameters (parameter (base 98 (B.Named (word (codes "uint8_t") 98))) (word (codes "b") 106) ∷ []))
+    (s.compound (at 109)
+    (s.block_of
+    ((s.local_declaration
+    (local (base 111 (B.Named (word (codes "uint8_t") 111)))
+    (set_to (plain (word (codes "next") 119))
+    (s.initial_value
+    (s.binary I.Remainder (at 139)
+    (s.parenthesized (at 126)
+    (s.binary I.Add (at 134)
+    (s.postfix (s.identifier (word (codes "q") 127))
+    (s.dot (at 128) (word (codes "head") 129) s.no_suffixes))
+    (int 1 136)))
+    (int 16 141))) ∷
+    []))) ∷
+    (s.inner_statement
+    (s.if_statement (at 145)
+    (s.binary I.Equal (at 154) (s.identifier (word (codes "next") 149))
+    (s.postfix (s.identifier (word (codes "q") 157)) (s.dot (at 158) (word (codes "tail") 159) s.no_suffixes)))
+    (s.return_value (at 165) (s.identifier (word (codes "false") 172))))) ∷
+    (s.inner_statement
+    (s.action
+    (s.assign Se.Plain (at 193)
+    (s.postfix (s.identifier (word (codes "q") 179))
+    (s.index (at 184)
+    (s.postfix (s.identifier (word (codes "q") 185)) (s.dot (at 186) (word (codes "head") 187) s.no_suffixes))
+    (s.dot (at 180) (word (codes "buf") 181) s.no_suffixes)))
+    (s.identifier (word (codes "b") 195))))) ∷
+    (s.inner_statement
+    (s.action
+    (s.assign Se.Plain (at 205)
+    (s.postfix (s.identifier (word (codes "q") 198)) (s.dot (at 199) (word (codes "head") 200) s.no_suffixes))
+    (s.identifier (word (codes "next") 207))))) ∷
+    (s.inner_statement (s.return_value (at 213) (s.identifier (word (codes "true") 220)))) ∷
+    []))) ∷
     []) ≡
     Some
-      (record {
-          structs = record {
-              tag = codes "Queue";
-              tagged = false;
-              complete = true;
-              fields = (codes "buf", AnArray (AWord U8) 16) ∷ (codes "head", AWord U8) ∷ (codes "tail", AWord U8) ∷ [] } ∷
-            [];
-          functions = record {
-              name = codes "push";
-              params = record { name = codes "b"; shape = AWord U8; constant = false; object = None } ∷ [];
-              result = Some (AWord Bool);
-              locals = record { name = codes "next"; shape = AWord U8; constant = false; object = None } ∷ [];
-              body = Some
-                (block
-                    ((t.declaration_with (V.Local 1)
-                            (t.initial_value
-                                (t.cast U8
-                                    (t.binary O.Rem
-                                        (t.binary O.Add (t.cast I32 (t.value_at (t.member (object_place 0) 1 16))) (number 1))
-                                        (number 16))))) ∷
-                        (t.if_statement
-                            (t.binary O.Eq (t.cast I32 (read 1)) (t.cast I32 (t.value_at (t.member (object_place 0) 2 17))))
-                            (t.return_value (t.cast Bool (number 0)))) ∷
-                        (t.action
-                            (t.assign (t.element (t.member (object_place 0) 0 0) (t.value_at (t.member (object_place 0) 1 16)) 16 1) (read 0))) ∷
-                        (t.action (t.assign (t.member (object_place 0) 1 16) (read 1))) ∷
-                        (t.return_value (t.cast Bool (number 1))) ∷
-                        [])) } ∷
-            [];
-          objects = record { name = codes "q"; shape = AStruct 0; constant = false; addressable = false; owner = None; initial = replicate 18 (zero U8) } ∷
-            [] })
+    (record {
+      structs = record {
+        tag = codes "Queue";
+        tagged = false;
+        complete = true;
+        fields = (codes "buf", AnArray (AWord U8) 16) ∷ (codes "head", AWord U8) ∷ (codes "tail", AWord U8) ∷ [];
+      } ∷
+          [];
+      functions = record {
+        name = codes "push";
+        params = record { name = codes "b"; shape = AWord U8; constant = false; object = None } ∷ [];
+        result = Some (AWord Bool);
+        locals = record { name = codes "next"; shape = AWord U8; constant = false; object = None } ∷ [];
+        body = Some
+            (block
+            ((t.declaration_with (V.Local 1)
+            (t.initial_value
+            (t.cast U8
+            (t.binary O.Rem
+            (t.binary O.Add (t.cast I32 (t.value_at (t.member (object_place 0) 1 16))) (number 1))
+            (number 16))))) ∷
+            (t.if_statement
+            (t.binary O.Eq (t.cast I32 (read 1)) (t.cast I32 (t.value_at (t.member (object_place 0) 2 17))))
+            (t.return_value (t.cast Bool (number 0)))) ∷
+            (t.action
+            (t.assign (t.element (t.member (object_place 0) 0 0) (t.value_at (t.member (object_place 0) 1 16)) 16 1) (read 0))) ∷
+            (t.action (t.assign (t.member (object_place 0) 1 16) (read 1))) ∷
+            (t.return_value (t.cast Bool (number 1))) ∷
+            []));
+      } ∷
+          [];
+      objects = record { name = codes "q"; shape = AStruct 0; constant = false; addressable = false; owner = None; initial = replicate 18 (zero U8) } ∷
+          [];
+    })
 queue = refl
 
 -- int f(unsigned char c) { switch (c) { case 1: return 2; case 258: default: break; } return 0; }
 cases : program (
     s.function_definition (alone (base 1 (B.Words (T.Int ∷ [])))) (word (codes "f") 5)
-      (s.parameters (parameter (base 7 (B.Words (T.Unsigned ∷ T.Char ∷ []))) (word (codes "c") 21) ∷ []))
-      (s.compound (at 24)
-          (s.block_of
-              ((s.inner_statement
-                      (s.switch (at 26) (s.identifier (word (codes "c") 34))
-                          (s.groups_of
-                              (s.labelled (s.case_label (at 39) (int 1 44) ∷ [])
-                                    (s.block_of ((s.inner_statement (s.return_value (at 47) (int 2 54))) ∷ [])) ∷
-                                  s.labelled (s.case_label (at 57) (int 258 62) ∷ s.default_label (at 67) ∷ [])
-                                    (s.block_of ((s.inner_statement (s.break_statement (at 76))) ∷ [])) ∷
-                                  [])))) ∷
-                  (s.inner_statement (s.return_value (at 85) (int 0 92))) ∷
-                  []))) ∷
+    (s.parameters (parameter (base 7 (B.Words (T.Unsigned ∷ T.Char ∷ []))) (word (codes "c") 21) ∷ []))
+    (s.compound (at 24)
+    (s.block_of
+    ((s.inner_statement
+    (s.switch (at 26) (s.identifier (word (codes "c") 34))
+    (s.groups_of
+    (s.labelled (s.case_label (at 39) (int 1 44) ∷ [])
+    (s.block_of ((s.inner_statement (s.return_value (at 47) (int 2 54))) ∷ [])) ∷
+    s.labelled (s.case_label (at 57) (int 258 62) ∷ s.default_label (at 67) ∷ [])
+    (s.block_of ((s.inner_statement (s.break_statement (at 76))) ∷ [])) ∷
+    [])))) ∷
+    (s.inner_statement (s.return_value (at 85) (int 0 92))) ∷
+    []))) ∷
     []) ≡
     Some
-      (record {
-          structs = [];
-          functions = record {
-              name = codes "f";
-              params = record { name = codes "c"; shape = AWord U8; constant = false; object = None } ∷ [];
-              result = Some (AWord I32);
-              locals = [];
-              body = Some
-                (block
-                    ((t.switch (t.cast I32 (read 0))
-                            (t.labelled (Case (int_number 1) ∷ []) (statements_of (t.return_value (number 2) ∷ []))
-                                (t.labelled (Case (int_number 258) ∷ Default ∷ []) (statements_of (t.break_statement ∷ [])) t.no_groups))) ∷
-                        (t.return_value (number 0)) ∷
-                        [])) } ∷
-            [];
-          objects = [] })
+    (record {
+      structs = [];
+      functions = record {
+        name = codes "f";
+        params = record { name = codes "c"; shape = AWord U8; constant = false; object = None } ∷ [];
+        result = Some (AWord I32);
+        locals = [];
+        body = Some
+            (block
+            ((t.switch (t.cast I32 (read 0))
+            (t.labelled (Case (int_number 1) ∷ []) (statements_of (t.return_value (number 2) ∷ []))
+            (t.labelled (Case (int_number 258) ∷ Default ∷ []) (statements_of (t.break_statement ∷ [])) t.no_groups))) ∷
+            (t.return_value (number 0)) ∷
+            []));
+      } ∷
+          [];
+      objects = [];
+    })
 cases = refl
 
 -- int x; int f(int a) { int x = x; { int x = a; a = x; } return x; }
@@ -543,102 +568,108 @@ cases = refl
 hiding : program (
     s.object_definition (alone (base 1 (B.Words (T.Int ∷ [])))) (bare (plain (word (codes "x") 5)) ∷ []) ∷
     s.function_definition (alone (base 8 (B.Words (T.Int ∷ [])))) (word (codes "f") 12)
-      (s.parameters (parameter (base 14 (B.Words (T.Int ∷ []))) (word (codes "a") 18) ∷ []))
-      (s.compound (at 21)
-          (s.block_of
-              ((s.local_declaration
-                      (local (base 23 (B.Words (T.Int ∷ [])))
-                          (set_to (plain (word (codes "x") 27)) (s.initial_value (s.identifier (word (codes "x") 31))) ∷ []))) ∷
-                  (s.inner_statement
-                      (s.compound (at 34)
-                          (s.block_of
-                              ((s.local_declaration
-                                      (local (base 36 (B.Words (T.Int ∷ [])))
-                                          (set_to (plain (word (codes "x") 40)) (s.initial_value (s.identifier (word (codes "a") 44))) ∷ []))) ∷
-                                  (s.inner_statement
-                                      (s.action (s.assign Se.Plain (at 49) (s.identifier (word (codes "a") 47)) (s.identifier (word (codes "x") 51))))) ∷
-                                  [])))) ∷
-                  (s.inner_statement (s.return_value (at 56) (s.identifier (word (codes "x") 63)))) ∷
-                  []))) ∷
+    (s.parameters (parameter (base 14 (B.Words (T.Int ∷ []))) (word (codes "a") 18) ∷ []))
+    (s.compound (at 21)
+    (s.block_of
+    ((s.local_declaration
+    (local (base 23 (B.Words (T.Int ∷ [])))
+    (set_to (plain (word (codes "x") 27)) (s.initial_value (s.identifier (word (codes "x") 31))) ∷ []))) ∷
+    (s.inner_statement
+    (s.compound (at 34)
+    (s.block_of
+    ((s.local_declaration
+    (local (base 36 (B.Words (T.Int ∷ [])))
+    (set_to (plain (word (codes "x") 40)) (s.initial_value (s.identifier (word (codes "a") 44))) ∷ []))) ∷
+    (s.inner_statement
+    (s.action (s.assign Se.Plain (at 49) (s.identifier (word (codes "a") 47)) (s.identifier (word (codes "x") 51))))) ∷
+    [])))) ∷
+    (s.inner_statement (s.return_value (at 56) (s.identifier (word (codes "x") 63)))) ∷
+    []))) ∷
     []) ≡
     Some
-      (record {
-          structs = [];
-          functions = record {
-              name = codes "f";
-              params = an_int_local (codes "a") None ∷ [];
-              result = Some (AWord I32);
-              locals = an_int_local (codes "x") None ∷ an_int_local (codes "x") None ∷ [];
-              body = Some
-                (block
-                    ((t.declaration_with (V.Local 1) (t.initial_value (read 1))) ∷
-                        (block (t.declaration_with (V.Local 2) (t.initial_value (read 0)) ∷ t.action (t.assign (local_place 0) (read 2)) ∷ [])) ∷
-                        (t.return_value (read 1)) ∷
-                        [])) } ∷
-            [];
-          objects = record { name = codes "x"; shape = AWord I32; constant = false; addressable = false; owner = None; initial = zero I32 ∷ [] } ∷ [] })
+    (record {
+      structs = [];
+      functions = record {
+        name = codes "f";
+        params = an_int_local (codes "a") None ∷ [];
+        result = Some (AWord I32);
+        locals = an_int_local (codes "x") None ∷ an_int_local (codes "x") None ∷ [];
+        body = Some
+            (block
+            ((t.declaration_with (V.Local 1) (t.initial_value (read 1))) ∷
+            (block (t.declaration_with (V.Local 2) (t.initial_value (read 0)) ∷ t.action (t.assign (local_place 0) (read 2)) ∷ [])) ∷
+            (t.return_value (read 1)) ∷
+            []));
+      } ∷
+          [];
+      objects = record { name = codes "x"; shape = AWord I32; constant = false; addressable = false; owner = None; initial = zero I32 ∷ [] } ∷ [];
+    })
 hiding = refl
 
 -- void f(int n) { while (n) do n--; while (n > 1); for (;;) { if (n) break; } }
 -- loops are numbered in the order in which they begin
 loops : program (
     s.function_definition (alone (base 1 (B.Words (T.Void ∷ [])))) (word (codes "f") 6)
-      (s.parameters (parameter (base 8 (B.Words (T.Int ∷ []))) (word (codes "n") 12) ∷ []))
-      (s.compound (at 15)
-          (s.block_of
-              ((s.inner_statement
-                      (s.while_loop (at 17) (s.identifier (word (codes "n") 24))
-                          (s.do_loop (at 27)
-                              (s.action (s.step_after St.Down (at 31) (s.identifier (word (codes "n") 30))))
-                              (s.binary I.Greater (at 44) (s.identifier (word (codes "n") 42)) (int 1 46))))) ∷
-                  (s.inner_statement
-                      (s.for_loop (at 50) s.starts_with_nothing None []
-                          (s.compound (at 59)
-                              (s.block_of
-                                  ((s.inner_statement (s.if_statement (at 61) (s.identifier (word (codes "n") 65)) (s.break_statement (at 68)))) ∷ []))))) ∷
-                  []))) ∷
+    (s.parameters (parameter (base 8 (B.Words (T.Int ∷ []))) (word (codes "n") 12) ∷ []))
+    (s.compound (at 15)
+    (s.block_of
+    ((s.inner_statement
+    (s.while_loop (at 17) (s.identifier (word (codes "n") 24))
+    (s.do_loop (at 27)
+    (s.action (s.step_after St.Down (at 31) (s.identifier (word (codes "n") 30))))
+    (s.binary I.Greater (at 44) (s.identifier (word (codes "n") 42)) (int 1 46))))) ∷
+    (s.inner_statement
+    (s.for_loop (at 50) s.starts_with_nothing None []
+    (s.compound (at 59)
+    (s.block_of
+    ((s.inner_statement (s.if_statement (at 61) (s.identifier (word (codes "n") 65)) (s.break_statement (at 68)))) ∷ []))))) ∷
+    []))) ∷
     []) ≡
     Some
-      (record {
-          structs = [];
-          functions = record {
-              name = codes "f";
-              params = an_int_local (codes "n") None ∷ [];
-              result = None;
-              locals = [];
-              body = Some
-                (block
-                    ((t.while_loop 1 (read 0) (t.do_loop 2 (t.action (t.step DownAfter (local_place 0))) (t.binary O.Gt (read 0) (number 1)))) ∷
-                        (t.for_loop 3 t.no_statements None [] (block (t.if_statement (read 0) t.break_statement ∷ []))) ∷
-                        [])) } ∷
-            [];
-          objects = [] })
+    (record {
+      structs = [];
+      functions = record {
+        name = codes "f";
+        params = an_int_local (codes "n") None ∷ [];
+        result = None;
+        locals = [];
+        body = Some
+            (block
+            ((t.while_loop 1 (read 0) (t.do_loop 2 (t.action (t.step DownAfter (local_place 0))) (t.binary O.Gt (read 0) (number 1)))) ∷
+            (t.for_loop 3 t.no_statements None [] (block (t.if_statement (read 0) t.break_statement ∷ []))) ∷
+            []));
+      } ∷
+          [];
+      objects = [];
+    })
 loops = refl
 
 -- enum { A, B = 5, C }; int f(void) { return A + C; }
 enumerators : program (
     s.tag_declaration
-      (with_members (base 1 (B.Enum None))
-          (s.constants (enumerator (word (codes "A") 8) ∷ enumerator_of (word (codes "B") 11) (int 5 15) ∷ enumerator (word (codes "C") 18) ∷ []))) ∷
+    (with_members (base 1 (B.Enum None))
+    (s.constants (enumerator (word (codes "A") 8) ∷ enumerator_of (word (codes "B") 11) (int 5 15) ∷ enumerator (word (codes "C") 18) ∷ []))) ∷
     s.function_definition (alone (base 23 (B.Words (T.Int ∷ [])))) (word (codes "f") 27)
-      s.only_void
-      (s.compound (at 35)
-          (s.block_of
-              ((s.inner_statement
-                      (s.return_value (at 37) (s.binary I.Add (at 46) (s.identifier (word (codes "A") 44)) (s.identifier (word (codes "C") 48))))) ∷
-                  []))) ∷
+    s.only_void
+    (s.compound (at 35)
+    (s.block_of
+    ((s.inner_statement
+    (s.return_value (at 37) (s.binary I.Add (at 46) (s.identifier (word (codes "A") 44)) (s.identifier (word (codes "C") 48))))) ∷
+    []))) ∷
     []) ≡
     Some
-      (record {
-          structs = [];
-          functions = record {
-              name = codes "f";
-              params = [];
-              result = Some (AWord I32);
-              locals = [];
-              body = Some (block ((t.return_value (t.binary O.Add (number 0) (number 6))) ∷ [])) } ∷
-            [];
-          objects = [] })
+    (record {
+      structs = [];
+      functions = record {
+        name = codes "f";
+        params = [];
+        result = Some (AWord I32);
+        locals = [];
+        body = Some (block ((t.return_value (t.binary O.Add (number 0) (number 6))) ∷ []));
+      } ∷
+          [];
+      objects = [];
+    })
 enumerators = refl
 
 -- int g(void); int f(void) { return sizeof g(); }
@@ -646,164 +677,174 @@ enumerators = refl
 size_alone : program (
     s.function_prototype (alone (base 1 (B.Words (T.Int ∷ [])))) (word (codes "g") 5) s.only_void ∷
     s.function_definition (alone (base 14 (B.Words (T.Int ∷ [])))) (word (codes "f") 18)
-      s.only_void
-      (s.compound (at 26)
-          (s.block_of ((s.inner_statement (s.return_value (at 28) (s.sizeof_expression (at 35) (s.call (word (codes "g") 42) s.no_arguments)))) ∷ []))) ∷
+    s.only_void
+    (s.compound (at 26)
+    (s.block_of ((s.inner_statement (s.return_value (at 28) (s.sizeof_expression (at 35) (s.call (word (codes "g") 42) s.no_arguments)))) ∷ []))) ∷
     []) ≡
     Some
-      (record {
-          structs = [];
-          functions = record {
-              name = codes "f";
-              params = [];
-              result = Some (AWord I32);
-              locals = [];
-              body = Some (block ((t.return_value (t.cast I32 (t.constant (record { kind = U64; value = pos 4 })))) ∷ [])) } ∷
-            record { name = codes "g"; params = []; result = Some (AWord I32); locals = []; body = None } ∷
-            [];
-          objects = [] })
+    (record {
+      structs = [];
+      functions = record {
+        name = codes "f";
+        params = [];
+        result = Some (AWord I32);
+        locals = [];
+        body = Some (block ((t.return_value (t.cast I32 (t.constant (record { kind = U64; value = pos 4 })))) ∷ []));
+      } ∷
+          record { name = codes "g"; params = []; result = Some (AWord I32); locals = []; body = None } ∷
+          [];
+      objects = [];
+    })
 size_alone = refl
 
 -- typedef const int T[2]; void f(T a, int b[3], const char c[]);
 array_parameters : program (
     s.type_definition (alone (constant_base 9 (B.Words (T.Int ∷ []))))
-      (declarator None (word (codes "T") 19) (s.dimensions_of (s.sized (at 20) (int 2 21) ∷ [])) ∷ []) ∷
+    (declarator None (word (codes "T") 19) (s.dimensions_of (s.sized (at 20) (int 2 21) ∷ [])) ∷ []) ∷
     s.function_prototype (alone (base 25 (B.Words (T.Void ∷ [])))) (word (codes "f") 30)
-      (s.parameters
-          (parameter (base 32 (B.Named (word (codes "T") 32))) (word (codes "a") 34) ∷
-              parameter_of (base 37 (B.Words (T.Int ∷ []))) None (Some (word (codes "b") 41)) (s.dimensions_of (s.sized (at 42) (int 3 43) ∷ [])) ∷
-              parameter_of (constant_base 47 (B.Words (T.Char ∷ []))) None (Some (word (codes "c") 58)) (s.dimensions_of (s.unsized (at 59) ∷ [])) ∷
-              [])) ∷
+    (s.parameters
+    (parameter (base 32 (B.Named (word (codes "T") 32))) (word (codes "a") 34) ∷
+    parameter_of (base 37 (B.Words (T.Int ∷ []))) None (Some (word (codes "b") 41)) (s.dimensions_of (s.sized (at 42) (int 3 43) ∷ [])) ∷
+    parameter_of (constant_base 47 (B.Words (T.Char ∷ []))) None (Some (word (codes "c") 58)) (s.dimensions_of (s.unsized (at 59) ∷ [])) ∷
+    [])) ∷
     []) ≡
     Some
-      (record {
-          structs = [];
-          functions = record {
-              name = codes "f";
-              params = record { name = codes "a"; shape = APointer (P.Word I32) true; constant = false; object = None } ∷
-                record { name = codes "b"; shape = APointer (P.Word I32) false; constant = false; object = None } ∷
-                record { name = codes "c"; shape = APointer (P.Word I8) true; constant = false; object = None } ∷
-                [];
-              result = None;
-              locals = [];
-              body = None } ∷
+    (record {
+      structs = [];
+      functions = record {
+        name = codes "f";
+        params = record { name = codes "a"; shape = APointer (P.Word I32) true; constant = false; object = None } ∷
+            record { name = codes "b"; shape = APointer (P.Word I32) false; constant = false; object = None } ∷
+            record { name = codes "c"; shape = APointer (P.Word I8) true; constant = false; object = None } ∷
             [];
-          objects = [] })
+        result = None;
+        locals = [];
+        body = None;
+      } ∷
+          [];
+      objects = [];
+    })
 array_parameters = refl
 
 -- int f(int k) { int a[2] = {k}; a[k] = k; return a[0]; }
 -- an array that is only indexed is no object
 indexed_array : program (
     s.function_definition (alone (base 1 (B.Words (T.Int ∷ [])))) (word (codes "f") 5)
-      (s.parameters (parameter (base 7 (B.Words (T.Int ∷ []))) (word (codes "k") 11) ∷ []))
-      (s.compound (at 14)
-          (s.block_of
-              ((s.local_declaration
-                      (local (base 16 (B.Words (T.Int ∷ [])))
-                          (set_to
-                                (declarator None (word (codes "a") 20) (s.dimensions_of (s.sized (at 21) (int 2 22) ∷ [])))
-                                (s.braces (at 27) (s.initializers_of ((s.initial_value (s.identifier (word (codes "k") 28))) ∷ []))) ∷
-                              []))) ∷
-                  (s.inner_statement
-                      (s.action
-                          (s.assign Se.Plain (at 37)
-                              (s.postfix (s.identifier (word (codes "a") 32)) (s.index (at 33) (s.identifier (word (codes "k") 34)) s.no_suffixes))
-                              (s.identifier (word (codes "k") 39))))) ∷
-                  (s.inner_statement
-                      (s.return_value (at 42) (s.postfix (s.identifier (word (codes "a") 49)) (s.index (at 50) (int 0 51) s.no_suffixes)))) ∷
-                  []))) ∷
+    (s.parameters (parameter (base 7 (B.Words (T.Int ∷ []))) (word (codes "k") 11) ∷ []))
+    (s.compound (at 14)
+    (s.block_of
+    ((s.local_declaration
+    (local (base 16 (B.Words (T.Int ∷ [])))
+    (set_to
+    (declarator None (word (codes "a") 20) (s.dimensions_of (s.sized (at 21) (int 2 22) ∷ [])))
+    (s.braces (at 27) (s.initializers_of ((s.initial_value (s.identifier (word (codes "k") 28))) ∷ []))) ∷
+    []))) ∷
+    (s.inner_statement
+    (s.action
+    (s.assign Se.Plain (at 37)
+    (s.postfix (s.identifier (word (codes "a") 32)) (s.index (at 33) (s.identifier (word (codes "k") 34)) s.no_suffixes))
+    (s.identifier (word (codes "k") 39))))) ∷
+    (s.inner_statement
+    (s.return_value (at 42) (s.postfix (s.identifier (word (codes "a") 49)) (s.index (at 50) (int 0 51) s.no_suffixes)))) ∷
+    []))) ∷
     []) ≡
     Some
-      (record {
-          structs = [];
-          functions = record {
-              name = codes "f";
-              params = an_int_local (codes "k") None ∷ [];
-              result = Some (AWord I32);
-              locals = record { name = codes "a"; shape = AnArray (AWord I32) 2; constant = false; object = None } ∷ [];
-              body = Some
-                (block
-                    ((t.declaration_with (V.Local 1) (t.braces (t.initializer (t.initial_value (read 0)) 1 t.no_initializers))) ∷
-                        (t.action (t.assign (t.element (local_place 1) (read 0) 2 1) (read 0))) ∷
-                        (t.return_value (t.value_at (t.element (local_place 1) (number 0) 2 1))) ∷
-                        [])) } ∷
-            [];
-          objects = [] })
+    (record {
+      structs = [];
+      functions = record {
+        name = codes "f";
+        params = an_int_local (codes "k") None ∷ [];
+        result = Some (AWord I32);
+        locals = record { name = codes "a"; shape = AnArray (AWord I32) 2; constant = false; object = None } ∷ [];
+        body = Some
+            (block
+            ((t.declaration_with (V.Local 1) (t.braces (t.initializer (t.initial_value (read 0)) 1 t.no_initializers))) ∷
+            (t.action (t.assign (t.element (local_place 1) (read 0) 2 1) (read 0))) ∷
+            (t.return_value (t.value_at (t.element (local_place 1) (number 0) 2 1))) ∷
+            []));
+      } ∷
+          [];
+      objects = [];
+    })
 indexed_array = refl
 
 -- void swap(int *p, int *q){ int t = *p; *p = *q; *q = t; }
 swap : program (
     s.function_definition (alone (base 1 (B.Words (T.Void ∷ [])))) (word (codes "swap") 6)
-      (s.parameters
-          (parameter_of (base 11 (B.Words (T.Int ∷ []))) (Some (star 15)) (Some (word (codes "p") 16)) s.no_dimensions ∷
-              parameter_of (base 19 (B.Words (T.Int ∷ []))) (Some (star 23)) (Some (word (codes "q") 24)) s.no_dimensions ∷
-              []))
-      (s.compound (at 26)
-          (s.block_of
-              ((s.local_declaration
-                      (local (base 28 (B.Words (T.Int ∷ [])))
-                          (set_to (plain (word (codes "t") 32)) (s.initial_value (s.unary Pre.Target (at 36) (s.identifier (word (codes "p") 37)))) ∷
-                              []))) ∷
-                  (s.inner_statement
-                      (s.action
-                          (s.assign Se.Plain (at 43) (s.unary Pre.Target (at 40) (s.identifier (word (codes "p") 41)))
-                              (s.unary Pre.Target (at 45) (s.identifier (word (codes "q") 46)))))) ∷
-                  (s.inner_statement
-                      (s.action
-                          (s.assign Se.Plain (at 52) (s.unary Pre.Target (at 49) (s.identifier (word (codes "q") 50)))
-                              (s.identifier (word (codes "t") 54))))) ∷
-                  []))) ∷
+    (s.parameters
+    (parameter_of (base 11 (B.Words (T.Int ∷ []))) (Some (star 15)) (Some (word (codes "p") 16)) s.no_dimensions ∷
+    parameter_of (base 19 (B.Words (T.Int ∷ []))) (Some (star 23)) (Some (word (codes "q") 24)) s.no_dimensions ∷
+    []))
+    (s.compound (at 26)
+    (s.block_of
+    ((s.local_declaration
+    (local (base 28 (B.Words (T.Int ∷ [])))
+    (set_to (plain (word (codes "t") 32)) (s.initial_value (s.unary Pre.Target (at 36) (s.identifier (word (codes "p") 37)))) ∷
+    []))) ∷
+    (s.inner_statement
+    (s.action
+    (s.assign Se.Plain (at 43) (s.unary Pre.Target (at 40) (s.identifier (word (codes "p") 41)))
+    (s.unary Pre.Target (at 45) (s.identifier (word (codes "q") 46)))))) ∷
+    (s.inner_statement
+    (s.action
+    (s.assign Se.Plain (at 52) (s.unary Pre.Target (at 49) (s.identifier (word (codes "q") 50)))
+    (s.identifier (word (codes "t") 54))))) ∷
+    []))) ∷
     []) ≡
     Some
-      (record {
-          structs = [];
-          functions = record {
-              name = codes "swap";
-              params = record { name = codes "p"; shape = APointer (P.Word I32) false; constant = false; object = None } ∷
-                record { name = codes "q"; shape = APointer (P.Word I32) false; constant = false; object = None } ∷
-                [];
-              result = None;
-              locals = an_int_local (codes "t") None ∷ [];
-              body = Some
-                (block
-                    ((t.declaration_with (V.Local 2) (t.initial_value (t.value_at (t.dereference (read 0) (P.Word I32))))) ∷
-                        (t.action (t.assign (t.dereference (read 0) (P.Word I32)) (t.value_at (t.dereference (read 1) (P.Word I32))))) ∷
-                        (t.action (t.assign (t.dereference (read 1) (P.Word I32)) (read 2))) ∷
-                        [])) } ∷
+    (record {
+      structs = [];
+      functions = record {
+        name = codes "swap";
+        params = record { name = codes "p"; shape = APointer (P.Word I32) false; constant = false; object = None } ∷
+            record { name = codes "q"; shape = APointer (P.Word I32) false; constant = false; object = None } ∷
             [];
-          objects = [] })
+        result = None;
+        locals = an_int_local (codes "t") None ∷ [];
+        body = Some
+            (block
+            ((t.declaration_with (V.Local 2) (t.initial_value (t.value_at (t.dereference (read 0) (P.Word I32))))) ∷
+            (t.action (t.assign (t.dereference (read 0) (P.Word I32)) (t.value_at (t.dereference (read 1) (P.Word I32))))) ∷
+            (t.action (t.assign (t.dereference (read 1) (P.Word I32)) (read 2))) ∷
+            []));
+      } ∷
+          [];
+      objects = [];
+    })
 swap = refl
 
 -- int f(int *p) { int *q = 0; if (p == NULL) q = p; return !q; }
 null_pointer : program (
     s.function_definition (alone (base 1 (B.Words (T.Int ∷ [])))) (word (codes "f") 5)
-      (s.parameters (parameter_of (base 7 (B.Words (T.Int ∷ []))) (Some (star 11)) (Some (word (codes "p") 12)) s.no_dimensions ∷ []))
-      (s.compound (at 15)
-          (s.block_of
-              ((s.local_declaration
-                      (local (base 17 (B.Words (T.Int ∷ [])))
-                          (set_to (declarator (Some (star 21)) (word (codes "q") 22) s.no_dimensions) (s.initial_value (int 0 26)) ∷ []))) ∷
-                  (s.inner_statement
-                      (s.if_statement (at 29)
-                          (s.binary I.Equal (at 35) (s.identifier (word (codes "p") 33)) (s.identifier (word (codes "NULL") 38)))
-                          (s.action (s.assign Se.Plain (at 46) (s.identifier (word (codes "q") 44)) (s.identifier (word (codes "p") 48)))))) ∷
-                  (s.inner_statement (s.return_value (at 51) (s.unary Pre.Not (at 58) (s.identifier (word (codes "q") 59))))) ∷
-                  []))) ∷
+    (s.parameters (parameter_of (base 7 (B.Words (T.Int ∷ []))) (Some (star 11)) (Some (word (codes "p") 12)) s.no_dimensions ∷ []))
+    (s.compound (at 15)
+    (s.block_of
+    ((s.local_declaration
+    (local (base 17 (B.Words (T.Int ∷ [])))
+    (set_to (declarator (Some (star 21)) (word (codes "q") 22) s.no_dimensions) (s.initial_value (int 0 26)) ∷ []))) ∷
+    (s.inner_statement
+    (s.if_statement (at 29)
+    (s.binary I.Equal (at 35) (s.identifier (word (codes "p") 33)) (s.identifier (word (codes "NULL") 38)))
+    (s.action (s.assign Se.Plain (at 46) (s.identifier (word (codes "q") 44)) (s.identifier (word (codes "p") 48)))))) ∷
+    (s.inner_statement (s.return_value (at 51) (s.unary Pre.Not (at 58) (s.identifier (word (codes "q") 59))))) ∷
+    []))) ∷
     []) ≡
     Some
-      (record {
-          structs = [];
-          functions = record {
-              name = codes "f";
-              params = record { name = codes "p"; shape = APointer (P.Word I32) false; constant = false; object = None } ∷ [];
-              result = Some (AWord I32);
-              locals = record { name = codes "q"; shape = APointer (P.Word I32) false; constant = false; object = None } ∷ [];
-              body = Some
-                (block
-                    ((t.declaration_with (V.Local 1) (t.initial_value t.null_pointer)) ∷
-                        (t.if_statement (t.equal_pointers (read 0) t.null_pointer) (t.action (t.assign (local_place 1) (read 0)))) ∷
-                        (t.return_value (t.negation (read 1))) ∷
-                        [])) } ∷
-            [];
-          objects = [] })
+    (record {
+      structs = [];
+      functions = record {
+        name = codes "f";
+        params = record { name = codes "p"; shape = APointer (P.Word I32) false; constant = false; object = None } ∷ [];
+        result = Some (AWord I32);
+        locals = record { name = codes "q"; shape = APointer (P.Word I32) false; constant = false; object = None } ∷ [];
+        body = Some
+            (block
+            ((t.declaration_with (V.Local 1) (t.initial_value t.null_pointer)) ∷
+            (t.if_statement (t.equal_pointers (read 0) t.null_pointer) (t.action (t.assign (local_place 1) (read 0)))) ∷
+            (t.return_value (t.negation (read 1))) ∷
+            []));
+      } ∷
+          [];
+      objects = [];
+    })
 null_pointer = refl

@@ -35,7 +35,7 @@ inside block =
       structs = block.structs;
       result = block.result;
       in_loop = block.in_loop;
-      in_switch = block.in_switch
+      in_switch = block.in_switch;
     }
 
 abbrev pub inside_loop : Block → Block
@@ -47,7 +47,7 @@ inside_loop block =
       structs = block.structs;
       result = block.result;
       in_loop = true;
-      in_switch = block.in_switch
+      in_switch = block.in_switch;
     }
 
 abbrev pub inside_switch : Block → Block
@@ -59,7 +59,7 @@ inside_switch block =
       structs = block.structs;
       result = block.result;
       in_loop = block.in_loop;
-      in_switch = true
+      in_switch = true;
     }
 
 -- ---- names
@@ -74,7 +74,7 @@ with_binding binding block =
       structs = block.structs;
       result = block.result;
       in_loop = block.in_loop;
-      in_switch = block.in_switch
+      in_switch = block.in_switch;
     }
 
 abbrev pub is_declared : List Binding → List ℕ → Bool

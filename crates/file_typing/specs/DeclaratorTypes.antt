@@ -155,7 +155,7 @@ abbrev pub type_of_declarator : Sort → Scope → QualifiedType → s.InitDecla
 type_of_declarator sort scope base init =
     and_then (lengths scope init.declarator.dimensions) (λ counts.
     and_then (declared_type sort scope.structs init.declarator.word.place (pointed init.declarator.pointer base) (counted (values_in init.value) counts))
-        (value_type init.declarator.word.place))
+    (value_type init.declarator.word.place))
 
 -- a parameter of array type is a pointer to its elements (C 6.7.6.3)
 abbrev pub pointer_or : ValueType → Bool → Option Pointee → ValueType

@@ -46,9 +46,9 @@ abbrev pub objects_from : List StructEntry → ℕ → Body → ℕ → List Loc
 objects_from structs owner body number [] = []
 objects_from structs owner body number (local ∷ rest) =
     (if is_object body number then local_object structs owner local ∷ [] else []) ++ objects_from structs owner body (suc number) rest where
-  local_object : List StructEntry → ℕ → Local → ObjectView
-  local_object structs owner local =
-      record { name = local.name; shape = local.type; constant = false; addressable = true; owner = Some owner; initial = zeros structs local.type }
+      local_object : List StructEntry → ℕ → Local → ObjectView
+      local_object structs owner local =
+          record { name = local.name; shape = local.type; constant = false; addressable = true; owner = Some owner; initial = zeros structs local.type }
 
 abbrev pub objects_of_body : List StructEntry → ℕ → Option Body → List ObjectView
 objects_of_body structs owner None = []
@@ -86,7 +86,7 @@ function_of first entry (Some body) =
       params = take (length (params_of entry.interface)) (locals_from (object_of_local (is_object body) first) 0 body.locals);
       result = result_of entry.interface;
       locals = drop (length (params_of entry.interface)) (locals_from (object_of_local (is_object body) first) 0 body.locals);
-      body = Some (statement_resolved (object_of_local (is_object body) first) body.statement)
+      body = Some (statement_resolved (object_of_local (is_object body) first) body.statement);
     }
 
 abbrev pub functions_of : List StructEntry → ℕ → List FunctionEntry → List FunctionView
@@ -110,7 +110,7 @@ with_address taken number (object ∷ rest) =
       constant = object.constant;
       addressable = is_taken taken (V.Object number);
       owner = object.owner;
-      initial = object.initial
+      initial = object.initial;
     }
     ∷ with_address taken (suc number) rest
 
@@ -123,8 +123,8 @@ program_of file =
       structs = structs_of file.structs;
       functions = functions_of file.structs (length file.objects) file.functions;
       objects =
-        with_address (flat_map (λ entry. taken_in entry.body) file.functions) 0 file.objects
-        ++ objects_of_functions file.structs 0 file.functions
+          with_address (flat_map (λ entry. taken_in entry.body) file.functions) 0 file.objects
+          ++ objects_of_functions file.structs 0 file.functions;
     }
 
 -- a rule that is broken, and where

@@ -59,7 +59,7 @@ block_of_body header =
       structs = header.block.structs;
       result = header.block.result;
       in_loop = false;
-      in_switch = false
+      in_switch = false;
     }
 
 abbrev pub typed_body : Block → s.Statement → Checking t.Statement

@@ -21,7 +21,7 @@ local_of init structs type =
       place = init.declarator.word.place;
       type = type.shape;
       cells = size_of structs type.shape;
-      constant = type.constant
+      constant = type.constant;
     }
 
 -- a local is in scope from its own initializer on

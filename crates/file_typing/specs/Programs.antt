@@ -62,7 +62,7 @@ function_view f =
       params = map local_view f.params;
       result = option_map shape_of f.result;
       locals = map local_view f.locals;
-      body = option_map stmt_view f.body
+      body = option_map stmt_view f.body;
     }
 
 abbrev pub object_view : Object → ObjectView

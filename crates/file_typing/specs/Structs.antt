@@ -42,7 +42,7 @@ abbrev pub with_field : List StructEntry → List ℕ → Shape → Members → 
 with_field structs name shape members =
     record {
       fields = members.fields ++ record { name = name; type = shape; number = length members.fields; cell = length members.contents } ∷ [];
-      contents = members.contents ++ cell_kinds structs shape
+      contents = members.contents ++ cell_kinds structs shape;
     }
 
 abbrev pub has_field : Members → List ℕ → Bool
@@ -107,7 +107,7 @@ completed (Some entry) members =
       tag = entry.tag;
       tagged = entry.tagged;
       structure = record { fields = members.fields; cells = Some (length members.contents) };
-      contents = members.contents
+      contents = members.contents;
     }
 
 -- what an item's base declares, and its type
@@ -141,7 +141,7 @@ struct_declared file tag constant (Some number) =
 struct_declared file tag constant None =
     record {
       file = with_structs (file.structs ++ incomplete tag.name true ∷ []) (tagged_with (Some tag) (length file.structs) file);
-      type = of_struct (length file.structs) constant
+      type = of_struct (length file.structs) constant;
     }
 
 abbrev pub struct_named_as : FileScope → Word → Bool → Option Tagged → Checking Based

@@ -60,9 +60,9 @@ no_translation bytes tokens terminals steps only classed parsed none program is 
     let same : is.tokens ≡ tokens = only is.tokens is.spelled in
     let stepped : is.steps ≡ steps = parsed.only max_levels is.steps (file_of bytes tokens terminals only classed program is) in
     let made : after_steps bytes tokens [] 0 steps nothing_read ≡ Some is.reading =
-        ap (λ (ts : List Token). after_steps bytes ts [] 0 steps nothing_read) (sym same)
-        ∙ ap (λ (ss : List (Step Action)). after_steps bytes is.tokens [] 0 ss nothing_read) (sym stepped)
-        ∙ is.translated in
+    ap (λ (ts : List Token). after_steps bytes ts [] 0 steps nothing_read) (sym same)
+    ∙ ap (λ (ss : List (Step Action)). after_steps bytes is.tokens [] 0 ss nothing_read) (sym stepped)
+    ∙ is.translated in
     none_some (after_steps bytes tokens [] 0 steps nothing_read) is.reading none made
 
 -- what the two refusals say where the fault is handed on
