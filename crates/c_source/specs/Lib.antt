@@ -1,2 +1,4 @@
 pub mod StackEffects
 pub mod EffectsHold
+pub mod Sizes
+pub mod Source

@@ -1,1 +1,1 @@
-mod EffectLemmas
+pub mod EffectLemmas

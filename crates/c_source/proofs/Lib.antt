@@ -1,0 +1,2 @@
+pub mod ActionEffects
+pub mod NeverLacks
