@@ -13,6 +13,7 @@ pub use classes::class_of;
 pub use fault::{Cause, Fault};
 pub use grammar::{Action, CGrammar, Class, Line};
 pub use reader::steps;
+pub use terminals::text;
 
 #[cfg(test)]
 mod tests;

@@ -6,3 +6,4 @@ pub mod ActRules
 pub mod ExternalRules
 pub mod Shown
 pub mod Made
+pub mod Tree

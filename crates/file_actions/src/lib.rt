@@ -10,11 +10,13 @@ mod external_parts;
 mod parts;
 mod statement_actions;
 mod statement_parts;
+mod steps_taken;
 
 pub use declaration_parts::Declarations;
 pub use external_parts::Externals;
 pub use parts::Parts;
 pub use statement_parts::Statements;
+pub use steps_taken::file_tree;
 
 #[cfg(test)]
 mod tests;
