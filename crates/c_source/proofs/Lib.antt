@@ -1,2 +1,3 @@
 pub mod ActionEffects
 pub mod NeverLacks
+pub mod Refusing
