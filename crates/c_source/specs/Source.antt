@@ -1,5 +1,5 @@
 -- Which bytes are a C file, and which tree it is; what a refusal of others says.
-use Rattle.std.specs.Prelude.{◌≡◌, ℕ, List, [], Some, None, length}
+use Rattle.std.specs.Prelude.{◌≡◌, ℕ, ◌≤◌, List, [], Some, length}
 use Rattle.c_lexer.specs.declared.tokens.Place.{Place}
 use Rattle.c_syntax.specs.Syntax.{ExternalItem}
 use Rattle.c_lexer.specs.declared.faults.Cause.{Cause as LexerCause}
