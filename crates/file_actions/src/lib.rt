@@ -17,6 +17,3 @@ pub use external_parts::Externals;
 pub use parts::Parts;
 pub use statement_parts::Statements;
 pub use steps_taken::file_tree;
-
-#[cfg(test)]
-mod tests;
