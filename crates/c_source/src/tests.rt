@@ -30,7 +30,7 @@ const ACCEPTED: &[&[u8]] = &[
     b"int f(int a) { if (a == 1) return 1; else if (a == 2) return 2; else { return 3; } }",
     b"int f(int a, int b) { return a ? b ? 1 : 2 : a || b && a | b ^ a & b == a < b << a + b * -a; }",
     b"int f(int a) { return a >= 1 != a <= 2 > ~a >> !a % 3 / 2; }",
-    b"typedef int T; int f(T T_, unsigned const T2) { int x = (T)T_; return x; }",
+    b"typedef int T; int f(T T_, unsigned const U) { int x = (T)T_; return x; }",
     b"int f(register int a) { register int b = a; return b; }",
     b"int x; struct s; struct s { struct s *p; }; typedef struct s S; S h;",
     b"#include <stdint.h>\n#include <stdbool.h>\n#include <stddef.h>\nuint8_t f(size_t n, bool b) { return b ? (uint8_t)n : UINT8_MAX; } int64_t g; bool t = true; int *p = NULL;",

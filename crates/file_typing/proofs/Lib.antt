@@ -5,4 +5,6 @@ pub mod WorkedTypes
 pub mod WorkedCycles
 pub mod WorkedAccepted
 pub mod WorkedLimits
+pub mod TypedTrees
 pub mod WorkedPrograms
+pub mod WorkedObjects
