@@ -1,5 +1,5 @@
 -- What ties the bindings of a name to one another.
-use Rattle.std.specs.Prelude.{ℕ, ◌≡◌, ◌<◌, ◌≤◌, ◌×◌, List, [], ◌∷◌, length, get_or}
+use Rattle.std.specs.Prelude.{ℕ, ◌≡◌, ◌<◌, ◌≤◌, List, [], ◌∷◌, length, get_or}
 use Rattle.name_scopes.specs.declared.places.Binding.{Binding}
 use Rattle.name_scopes.specs.Places.{place_of_number}
 

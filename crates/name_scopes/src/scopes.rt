@@ -1,6 +1,6 @@
 //! Names in scope, each with its value.
 
-ghost use Rattle.std.specs.Prelude.{◌≡◌, [], ◌∷◌, ◌-◌, length, take, drop, OnOk, OnErr};
+ghost use Rattle.std.specs.Prelude.{◌≡◌, [], ◌∷◌, ◌-◌, length, slice_get, take, drop, OnOk, OnErr};
 ghost use Rattle.std.specs.List.{list_any};
 ghost use Rattle.std.specs.Option.{option_copied};
 ghost use Rattle.std.specs.Str.{bytes_eq};
@@ -56,7 +56,7 @@ impl<T> Scopes<T> {
     {
         match self.places.place(name) {
             0 => None,
-            place => self.values.get(place - 1),
+            place => at(&self.values, place - 1),
         }
     }
 
@@ -74,10 +74,14 @@ impl<T: Drop> Scopes<T> {
         ensures declared { OnOk result (self.new ≡ record { name = name.now; value = value } ∷ self.old) }
         ensures unchanged { OnErr result (self.new ≡ self.old) }
     {
-        self.values.reserve(1)?;
-        self.places.declare(name)?;
         self.values.push(value)?;
-        Ok(())
+        match self.places.declare(name) {
+            Ok(()) => Ok(()),
+            Err(stop) => {
+                self.values.pop();
+                Err(stop)
+            }
+        }
     }
 
     /// Ends a block that began at the height: what was declared since is forgotten, and what it hid comes back.
@@ -95,4 +99,11 @@ impl<T: Drop> Scopes<T> {
         self.places.leave_one();
         self.values.pop();
     }
+}
+
+// The item at a place, counted from 0.
+fn at<T>(items: &[T], place: usize) -> Option<&T>
+    ensures { option_copied result ≡ slice_get items.now place }
+{
+    items.get(place)
 }

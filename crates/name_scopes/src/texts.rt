@@ -1,9 +1,9 @@
 //! Different names, each with its number.
 
-ghost use Rattle.std.specs.Prelude.{◌≡◌, [], ◌<◌, length, IfSome, IfOk, OnOk, OnErr};
-ghost use Rattle.std.specs.List.{position_or_len, position};
+ghost use Rattle.std.specs.Prelude.{◌≡◌, [], length, false, MatchOption, IfOk, OnOk, OnErr};
+ghost use Rattle.std.specs.List.{list_any};
 ghost use Rattle.std.specs.Str.{bytes_eq};
-ghost use Rattle.name_scopes.specs.Texts.{with_text, AreDifferent};
+ghost use Rattle.name_scopes.specs.Texts.{with_text, StandsAt, AreDifferent};
 
 use indexmap::IndexSet;
 use std::alloc::{AllocError, Global};
@@ -42,8 +42,7 @@ impl Texts {
 
     /// The number of a name, if it is among them.
     pub fn find(&self, name: &[u8]) -> Option<usize>
-        ensures number { result ≡ position (bytes_eq name.now) self.now }
-        ensures within { IfSome result (λ number. number < length self.now) }
+        ensures found { MatchOption result (list_any (bytes_eq name.now) self.now ≡ false) (λ number. StandsAt self.now number name.now) }
         ensures different { AreDifferent self.now }
     {
         let _count = self.texts.len();
@@ -52,20 +51,23 @@ impl Texts {
 
     /// The number of a name, which is among them from here on.
     pub fn number(&mut self, name: &[u8]) -> Result<usize, AllocError>
-        ensures number { IfOk result (λ number. number ≡ position_or_len (bytes_eq name.now) self.old) }
-        ensures within { IfOk result (λ number. number < length self.new) }
+        ensures number { IfOk result (λ number. StandsAt self.new number name.now) }
         ensures added { OnOk result (self.new ≡ with_text self.old name.now) }
         ensures unchanged { OnErr result (self.new ≡ self.old) }
     {
-        match self.texts.get_index_of(name) {
+        match self.find(name) {
             Some(number) => Ok(number),
-            None => {
-                let text = Vec::from_slice(self.alloc, name)?;
-                match self.texts.insert_full(text) {
-                    Ok((number, _)) => Ok(number),
-                    Err(_) => Err(AllocError),
-                }
-            }
+            None => self.add(name),
         }
+    }
+
+    fn add(&mut self, name: &[u8]) -> Result<usize, AllocError>
+        ensures number { IfOk result (λ number. StandsAt self.new number name.now) }
+        ensures added { OnOk result (self.new ≡ with_text self.old name.now) }
+        ensures unchanged { OnErr result (self.new ≡ self.old) }
+    {
+        let text = Vec::from_slice(self.alloc, name)?;
+        let (number, _) = self.texts.insert_full(text)?;
+        Ok(number)
     }
 }

@@ -1,0 +1,60 @@
+-- The places of bindings.
+use Rattle.std.proofs.Common.{◌≡◌, ℕ, ◌+◌, ◌<◌, ◌≤◌, zero, suc, Bool, true, false, cond, List, [], ◌∷◌, ◌++◌, length, get_or, map, refl, sym, ◌∙◌, ap, subst, arith}
+use Rattle.std.specs.Prelude.{nat_eq, if◌then◌else◌, slice_set, reverse}
+use Rattle.std.specs.List.{list_any}
+use Rattle.std.specs.Str.{bytes_eq}
+use Rattle.std.proofs.lemmas.List.{length-map, get_or-set_same, get_or-set_other, reverse-append, length-reverse}
+use Rattle.name_scopes.specs.declared.places.Binding.{Binding}
+use Rattle.name_scopes.specs.Texts.{with_text, StandsAt, AreDifferent}
+use Rattle.name_scopes.specs.Places.{place_of, place_of_number, names_of}
+use Rattle.name_scopes.specs.Links.{AreChained, AreLinked}
+use Rattle.name_scopes.proofs.TextLemmas.{tells, none_at, stays_at, no_fewer, at_most_one}
+
+long_names : (texts : List (List ℕ)) (bindings : List Binding) → length (names_of texts bindings) ≡ length bindings
+long_names texts bindings = length-map bindings (λ (binding : Binding). get_or texts binding.number [])
+
+-- A name's place is that of its number.
+pub place_found : (texts : List (List ℕ)) (name : List ℕ) (number : ℕ) (bindings : List Binding) → AreDifferent texts → StandsAt texts number name → AreChained (length texts) bindings
+    → place_of (names_of texts bindings) name ≡ place_of_number bindings number
+place_found texts name number [] different stands chained = refl
+place_found texts name number (binding ∷ bindings) different stands chained =
+    ap (λ (b : Bool). if b then length (names_of texts (binding ∷ bindings)) else place_of (names_of texts bindings) name) (tells texts name number binding.number different stands chained.0)
+    ∙ ap (λ (n : ℕ). if nat_eq number binding.number then suc n else place_of (names_of texts bindings) name) (long_names texts bindings)
+    ∙ ap (λ (n : ℕ). if nat_eq number binding.number then length (binding ∷ bindings) else n) (place_found texts name number bindings different stands chained.2)
+
+-- A name without a number has no binding.
+pub place_missing : (texts : List (List ℕ)) (name : List ℕ) (bindings : List Binding) → list_any (bytes_eq name) texts ≡ false → AreChained (length texts) bindings → 0 ≡ place_of (names_of texts bindings) name
+place_missing texts name [] none chained = refl
+place_missing texts name (binding ∷ bindings) none chained =
+    place_missing texts name bindings none chained.2
+    ∙ sym (ap (λ (b : Bool). if b then length (names_of texts (binding ∷ bindings)) else place_of (names_of texts bindings) name) (none_at (bytes_eq name) texts binding.number none chained.0))
+
+-- ---- one more text
+
+pub names_stay : (texts : List (List ℕ)) (name : List ℕ) (bindings : List Binding) → AreChained (length texts) bindings → names_of (with_text texts name) bindings ≡ names_of texts bindings
+names_stay texts name [] chained = refl
+names_stay texts name (binding ∷ bindings) chained =
+    ap (λ (n : List ℕ). n ∷ names_of (with_text texts name) bindings) (stays_at texts name binding.number chained.0)
+    ∙ ap (λ (ns : List (List ℕ)). get_or texts binding.number [] ∷ ns) (names_stay texts name bindings chained.2)
+
+chained_more : (count more : ℕ) (bindings : List Binding) → count ≤ more → AreChained count bindings → AreChained more bindings
+chained_more count more [] le chained = tt
+chained_more count more (binding ∷ bindings) le chained =
+    let first = chained.0 in
+    (omega (arith, le, first), chained.1, chained_more count more bindings le chained.2)
+
+pub linked_more : (texts : List (List ℕ)) (name : List ℕ) (last longer : List ℕ) (bindings : List Binding) → AreLinked texts last bindings → length texts < length longer
+    → ((number : ℕ) → get_or longer number 0 ≡ get_or last number 0) → AreLinked (with_text texts name) longer bindings
+linked_more texts name last longer bindings linked room same =
+    let most = at_most_one texts name in
+    record {
+      room = omega (arith, most, room);
+      places = λ number. same number ∙ linked.places number;
+      chained = chained_more (length texts) (length (with_text texts name)) bindings (no_fewer texts name) linked.chained
+    }
+
+-- ---- one more binding
+
+pub linked_on : (texts : List (List ℕ)) (last : List ℕ) (bindings : List Binding) (number hidden : ℕ) → AreLinked texts last bindings → number < length texts → hidden ≡ get_or last number 0
+    → AreLinked texts (slice_set last number (suc (length bindings))) (record { number = number; hidden = hidden } ∷ bindings)
+linked_on texts last bindings number hidden linked within is = ?
