@@ -125,7 +125,7 @@ tells texts text number k different stands within = cases (bytes_eq text (get_or
     cases false is = is ∙ sym (numbers_apart number k (λ e. true≢false (sym (equal_texts text (get_or texts k []) (sym stands.1 ∙ ap (λ n. get_or texts n []) e)) ∙ is)))
       where
         numbers_apart : (a b : ℕ) → (a ≡ b → ⊥) → nat_eq a b ≡ false
-        numbers_apart a b no = grind arith
+        numbers_apart a b differ = grind arith
 
 -- ---- one more text
 

@@ -1,6 +1,6 @@
 //! The bindings of names in order, and where the last one of each name stands.
 
-ghost use Rattle.std.specs.Prelude.{ℕ, ◌≡◌, ◌<◌, ◌≤◌, [], ◌∷◌, length, get_or, drop, OnOk, OnErr};
+ghost use Rattle.std.specs.Prelude.{ℕ, ◌≡◌, ◌<◌, ◌≤◌, [], ◌∷◌, ◌++◌, ◌+◌, length, get_or, drop, IfOk, OnOk, OnErr};
 ghost use Rattle.name_scopes.specs.Places.{place_of};
 
 use crate::texts::Texts;
@@ -71,8 +71,8 @@ impl Places {
         make_room(&mut self.last, self.texts.len())?;
         let number = self.texts.number(name)?;
         let hidden = self.last[number];
-        self.bindings.push(Binding { number, hidden })?;
-        self.last[number] = self.bindings.len();
+        let place = add(&mut self.bindings, Binding { number, hidden })?;
+        self.last[number] = place;
         Ok(())
     }
 
@@ -99,4 +99,16 @@ fn make_room(last: &mut Vec<usize>, count: usize) -> Result<(), AllocError>
     }
     last.push(0)?;
     Ok(())
+}
+
+// Adds a binding, and tells its place.
+fn add(bindings: &mut Vec<Binding>, binding: Binding) -> Result<usize, AllocError>
+    ensures place { IfOk result (λ place. place ≡ length bindings.old.items + 1) }
+    ensures added { OnOk result (bindings.new.items ≡ bindings.old.items ++ binding ∷ []) }
+    ensures unchanged { OnErr result (bindings.new.items ≡ bindings.old.items) }
+{
+    match bindings.push(binding) {
+        Ok(()) => Ok(bindings.len()),
+        Err(_) => Err(AllocError),
+    }
 }

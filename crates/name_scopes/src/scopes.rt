@@ -47,17 +47,18 @@ impl<T> Scopes<T> {
     pub fn height(&self) -> usize
         ensures { result ≡ length self.now }
     {
-        self.values.len()
+        self.places.len()
     }
 
     /// What the name stands for, by the binding that was declared last.
     pub fn look_up(&self, name: &[u8]) -> Option<&T>
         ensures { option_copied result ≡ named_in self.now name.now }
     {
-        match self.places.place(name) {
-            0 => None,
-            place => at(&self.values, place - 1),
+        let place = self.places.place(name);
+        if place == 0 {
+            return None;
         }
+        at(&self.values, place - 1)
     }
 
     /// Whether the name was declared after the height.

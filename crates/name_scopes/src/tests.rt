@@ -2,6 +2,12 @@ use crate::Scopes;
 use std::alloc::{AllocError, Global};
 use std::test::Fail;
 
+#[derive(Drop)]
+enum Meaning {
+    Object(u32),
+    Fields(Vec<u8>),
+}
+
 fn is(scopes: &Scopes<u32>, name: &[u8], value: u32) -> bool {
     match scopes.look_up(name) {
         Some(found) => *found == value,
@@ -37,6 +43,30 @@ fn a_block_is_apart(rt: HostRuntime) -> Result<(), Fail> {
     scopes.leave(height);
     assert!(rt; !scopes.is_declared_since(0, b"y"));
     assert!(rt; scopes.height() == 1);
+    Ok(())
+}
+
+fn fields(alloc: Global, scopes: &mut Scopes<Meaning>) -> Result<(), AllocError> {
+    scopes.declare(b"s", Meaning::Fields(Vec::from_slice(alloc, b"xy")?))?;
+    scopes.declare(b"n", Meaning::Object(7))?;
+    Ok(())
+}
+
+#[test]
+fn values_may_own_memory(rt: HostRuntime) -> Result<(), Fail> {
+    let alloc = rt.alloc();
+    let mut scopes: Scopes<Meaning> = Scopes::new(alloc);
+    fields(alloc, &mut scopes)?;
+    fields(alloc, &mut scopes)?;
+    scopes.leave(2);
+    match scopes.look_up(b"s") {
+        Some(Meaning::Fields(names)) => assert!(rt; names.as_slice() == b"xy"),
+        _ => assert!(rt; false),
+    }
+    match scopes.look_up(b"n") {
+        Some(Meaning::Object(number)) => assert!(rt; *number == 7),
+        _ => assert!(rt; false),
+    }
     Ok(())
 }
 

@@ -46,7 +46,10 @@ impl Texts {
         ensures different { AreDifferent self.now }
     {
         let _count = self.texts.len();
-        self.texts.get_index_of(name)
+        match self.texts.get_index_of(name) {
+            Some(number) => Some(number),
+            None => None,
+        }
     }
 
     /// The number of a name, which is among them from here on.
