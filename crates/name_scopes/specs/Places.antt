@@ -1,6 +1,5 @@
 -- Where the bindings of a name stand.
-use Rattle.std.specs.Prelude.{ℕ, ◌≡◌, ◌<◌, ◌≤◌, List, [], ◌∷◌, length, map, get_or, nat_eq, if◌then◌else◌, reverse}
-use Rattle.std.specs.List.{position_or_len}
+use Rattle.std.specs.Prelude.{ℕ, List, [], ◌∷◌, length, map, get_or, nat_eq, if◌then◌else◌}
 use Rattle.std.specs.Str.{bytes_eq}
 use Rattle.name_scopes.specs.declared.places.Binding.{Binding}
 

@@ -60,7 +60,7 @@ fn values_may_own_memory(rt: HostRuntime) -> Result<(), Fail> {
     fields(alloc, &mut scopes)?;
     scopes.leave(2);
     match scopes.look_up(b"s") {
-        Some(Meaning::Fields(names)) => assert!(rt; names.as_slice() == b"xy"),
+        Some(Meaning::Fields(names)) => assert!(rt; names.as_slice() == b"xy".as_slice()),
         _ => assert!(rt; false),
     }
     match scopes.look_up(b"n") {

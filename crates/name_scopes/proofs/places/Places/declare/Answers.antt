@@ -1,7 +1,5 @@
-use Rattle.std.proofs.Common.{◌≡◌, ◌<◌, ◌∷◌, List, ℕ, length, ◌∙◌, ap, refl, arith}
-use Rattle.std.specs.Prelude.{reverse}
+use Rattle.std.proofs.Common.{◌<◌, ◌∷◌, List, ℕ, length, ◌∙◌, ap, refl, arith}
 use Rattle.std.proofs.lemmas.List.{get_or_read}
-use Rattle.name_scopes.specs.Links.{AreLinked}
 use Rattle.name_scopes.proofs.PlaceLemmas.{linked_again, linked_pushed, names_again, declared, on_err}
 use Rattle.name_scopes.proofs.places.Places.declare.Goals as goal
 

@@ -1,7 +1,5 @@
-use Rattle.std.proofs.Common.{sym, ◌∙◌, ap, length, ◌≡◌, ◌-◌, take}
+use Rattle.std.proofs.Common.{◌∙◌, ap, length, ◌-◌, take}
 use Rattle.std.specs.Prelude.{reverse, nat_lt}
-use Rattle.std.specs.List.{list_any}
-use Rattle.std.specs.Str.{bytes_eq}
 use Rattle.std.proofs.lemmas.List.{length-reverse}
 use Rattle.name_scopes.proofs.ScopeLemmas.{since, has}
 use Rattle.name_scopes.proofs.scopes.Scopes.is_declared_since.Goals as goal

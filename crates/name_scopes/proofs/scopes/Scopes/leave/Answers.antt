@@ -1,4 +1,4 @@
-use Rattle.std.proofs.Common.{◌≡◌, ◌<◌, ◌-◌, length, drop, ◌∙◌, ap, subst}
+use Rattle.std.proofs.Common.{◌<◌, ◌-◌, length, drop, ◌∙◌, ap, subst}
 use Rattle.name_scopes.proofs.ScopeLemmas.{left}
 use Rattle.name_scopes.proofs.scopes.Scopes.leave.Goals as goal
 

@@ -1,5 +1,5 @@
-use Rattle.std.proofs.Common.{sym, ◌∙◌, ap, subst}
-use Rattle.std.specs.Prelude.{List, ℕ, ◌≡◌}
+use Rattle.std.proofs.Common.{◌∙◌, ap, subst}
+use Rattle.std.specs.Prelude.{List, ℕ}
 use Rattle.name_scopes.specs.Texts.{with_text, StandsAt}
 use Rattle.name_scopes.proofs.TextLemmas.{shown, added_shown, stored_at}
 use Rattle.name_scopes.proofs.texts.Texts.add.Goals as goal

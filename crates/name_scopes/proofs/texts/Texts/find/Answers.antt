@@ -1,8 +1,7 @@
-use Rattle.std.proofs.Common.{sym, ◌∙◌, ap, subst, Some}
-use Rattle.std.specs.Prelude.{List, ℕ, ◌≡◌, position, false}
+use Rattle.std.proofs.Common.{sym, ◌∙◌, ap, subst}
 use Rattle.std.specs.List.{list_any}
 use Rattle.std.specs.Str.{bytes_eq}
-use Rattle.name_scopes.specs.Texts.{with_text, StandsAt, AreDifferent}
+use Rattle.name_scopes.specs.Texts.{StandsAt, AreDifferent}
 use Rattle.name_scopes.proofs.TextLemmas.{shown, number_shown, any_shown, found_at, different_shown}
 use Rattle.name_scopes.proofs.texts.Texts.find.Goals as goal
 
