@@ -1,6 +1,11 @@
 //! Locals whose address is taken: which object each is, and a body in which each stands as that.
 #![tactic(auto)]
 
+mod actions;
 mod expressions;
+mod initializers;
+mod statements;
 mod turned;
 mod variables;
+
+pub use statements::resolve;
