@@ -5,7 +5,9 @@ mod actions;
 mod expressions;
 mod initializers;
 mod statements;
+mod tables;
 mod turned;
 mod variables;
 
 pub use statements::resolve;
+pub use tables::objects_of_locals;
