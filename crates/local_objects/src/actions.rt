@@ -1,14 +1,14 @@
 //! Actions in which each local that is an object stands as that.
 
 ghost use Rattle.std.specs.Prelude.{◌≡◌, []};
-ghost use Rattle.rvt_tree.specs.Views.{act_view, acts_view};
-ghost use Rattle.file_typing.specs.LocalObjects.{action_resolved, actions_resolved};
+ghost use Rattle.rvt_tree.specs.Views.{lvalue_view, expr_view, act_view, acts_view};
+ghost use Rattle.file_typing.specs.LocalObjects.{place_resolved, resolved, action_resolved, actions_resolved};
 ghost use Rattle.local_objects.specs.ObjectTables.{object_at};
 ghost use Rattle.local_objects.specs.TurnedLists.{actions_turned};
 
 use crate::expressions::{resolve_arguments, resolve_expression, resolve_place};
 use crate::turned::turned_actions;
-use rvt_tree::{Act, Acts};
+use rvt_tree::{Act, Acts, Expr, Lvalue};
 use std::mem;
 
 pub fn resolve_action(act: &mut Act, objects: &[Option<u32>])
@@ -19,25 +19,22 @@ pub fn resolve_action(act: &mut Act, objects: &[Option<u32>])
         Act::Call(_, arguments) => resolve_arguments(arguments, objects),
         Act::Discard(e) => resolve_expression(e, objects),
         Act::DiscardCall(_, arguments) => resolve_arguments(arguments, objects),
-        Act::Assign(place, e) => {
-            resolve_place(place, objects);
-            resolve_expression(e, objects);
-        }
-        Act::Update(_, place, _, e) => {
-            resolve_place(place, objects);
-            resolve_expression(e, objects);
-        }
-        Act::Advance(place, e, _) => {
-            resolve_place(place, objects);
-            resolve_expression(e, objects);
-        }
-        Act::Retreat(place, e, _) => {
-            resolve_place(place, objects);
-            resolve_expression(e, objects);
-        }
+        Act::Assign(place, e) => resolve_sides(place, e, objects),
+        Act::Update(_, place, _, e) => resolve_sides(place, e, objects),
+        Act::Advance(place, e, _) => resolve_sides(place, e, objects),
+        Act::Retreat(place, e, _) => resolve_sides(place, e, objects),
         Act::Bump(_, place) => resolve_place(place, objects),
         Act::BumpPointer(_, place, _) => resolve_place(place, objects),
     }
+}
+
+/// What is changed, and the operand at its right.
+fn resolve_sides(place: &mut Lvalue, e: &mut Expr, objects: &[Option<u32>])
+    ensures place { lvalue_view place.new ≡ place_resolved (object_at objects.now) (lvalue_view place.old) }
+    ensures operand { expr_view e.new ≡ resolved (object_at objects.now) (expr_view e.old) }
+{
+    resolve_place(place, objects);
+    resolve_expression(e, objects);
 }
 
 #[tactic(auto, using(crate::proofs::TurnedTwice::actions_turned_twice))]

@@ -6,8 +6,10 @@ mod expressions;
 mod initializers;
 mod statements;
 mod tables;
+#[cfg(test)]
+mod tests;
 mod turned;
 mod variables;
 
 pub use statements::resolve;
-pub use tables::objects_of_locals;
+pub use tables::{has_room, objects_of_locals};

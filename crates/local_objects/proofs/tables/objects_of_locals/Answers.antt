@@ -1,4 +1,4 @@
-use Rattle.std.proofs.Common.{rules, ◌≡◌, ◌+◌, ◌<◌, ◌++◌, ◌∷◌, [], ℕ, length, arith, subst, sym}
+use Rattle.std.proofs.Common.{rules, ◌≡◌, ◌+◌, ◌<◌, ℕ, arith, subst, sym}
 use Rattle.file_typing.specs.LocalObjects.{object_of_local}
 use Rattle.local_objects.specs.ObjectTables.{object_at, is_flagged}
 use Rattle.local_objects.proofs.Numbering.{next_fits, next_after_object, entries_pushed, entry_of_object}
