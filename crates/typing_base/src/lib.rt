@@ -1,0 +1,16 @@
+//! What typing a file works on: names and what they stand for, structs, what is noted, operands, and broken rules.
+#![tactic(auto)]
+
+mod entities;
+mod faults;
+mod notes;
+mod operands;
+mod scopes;
+mod structures;
+
+pub use entities::{Entity, NamedType, QualifiedType, Tagged};
+pub use faults::{Break, Cause, Fault, broken};
+pub use notes::{BodyNotes, Call, Local, Notes, Taken};
+pub use operands::{Operand, Type};
+pub use scopes::{Environment, Scope};
+pub use structures::{Field, Structure};
