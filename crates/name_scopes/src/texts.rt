@@ -1,0 +1,71 @@
+//! Different names, each with its number.
+
+ghost use Rattle.std.specs.Prelude.{◌≡◌, [], ◌<◌, length, IfSome, IfOk, OnOk, OnErr};
+ghost use Rattle.std.specs.List.{position_or_len, position};
+ghost use Rattle.std.specs.Str.{bytes_eq};
+ghost use Rattle.name_scopes.specs.Texts.{with_text, AreDifferent};
+
+use indexmap::IndexSet;
+use std::alloc::{AllocError, Global};
+use std::marker::Model;
+
+/// Different names in the order in which they were met. A name's number is its place.
+#[derive(Drop)]
+pub struct Texts {
+    alloc: Global,
+    texts: IndexSet<Vec<u8>>,
+}
+
+impl Model for Texts {
+    ghost use Rattle.std.specs.Prelude.{List, ℕ, map};
+
+    ghost Value = { List (List ℕ) };
+
+    ghost view = { λ it. map (λ text. text.items) it.texts.keys };
+}
+
+impl Texts {
+    pub fn new(alloc: Global) -> Texts
+        ensures { result ≡ [] }
+    {
+        Texts {
+            alloc,
+            texts: IndexSet::new(alloc),
+        }
+    }
+
+    pub fn len(&self) -> usize
+        ensures { result ≡ length self.now }
+    {
+        self.texts.len()
+    }
+
+    /// The number of a name, if it is among them.
+    pub fn find(&self, name: &[u8]) -> Option<usize>
+        ensures number { result ≡ position (bytes_eq name.now) self.now }
+        ensures within { IfSome result (λ number. number < length self.now) }
+        ensures different { AreDifferent self.now }
+    {
+        let _count = self.texts.len();
+        self.texts.get_index_of(name)
+    }
+
+    /// The number of a name, which is among them from here on.
+    pub fn number(&mut self, name: &[u8]) -> Result<usize, AllocError>
+        ensures number { IfOk result (λ number. number ≡ position_or_len (bytes_eq name.now) self.old) }
+        ensures within { IfOk result (λ number. number < length self.new) }
+        ensures added { OnOk result (self.new ≡ with_text self.old name.now) }
+        ensures unchanged { OnErr result (self.new ≡ self.old) }
+    {
+        match self.texts.get_index_of(name) {
+            Some(number) => Ok(number),
+            None => {
+                let text = Vec::from_slice(self.alloc, name)?;
+                match self.texts.insert_full(text) {
+                    Ok((number, _)) => Ok(number),
+                    Err(_) => Err(AllocError),
+                }
+            }
+        }
+    }
+}
