@@ -1,4 +1,1 @@
 pub mod Names
-pub mod Texts
-pub mod Places
-pub mod Links

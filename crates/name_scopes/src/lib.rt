@@ -1,11 +1,4 @@
-//! The names in scope, with what each one stands for.
+//! A stub.
 #![tactic(auto)]
-
-mod places;
 mod scopes;
-mod texts;
-
 pub use scopes::Scopes;
-
-#[cfg(test)]
-mod tests;

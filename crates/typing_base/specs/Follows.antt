@@ -1,16 +1,16 @@
 -- When a step says what a phrase becomes.
 use Rattle.std.specs.Prelude.{◌≡◌, Result, Ok, Err}
 use Rattle.expression_typing.specs.Outcomes.{Outcome, Made, Broken}
-use Rattle.expression_typing.specs.Progress.{Notes}
 use Rattle.expression_typing.specs.Operands as x
 use Rattle.typing_base.specs.declared.faults.Fault.{Fault}
 use Rattle.typing_base.specs.declared.faults.Fault.TheVariants as F
 use Rattle.typing_base.specs.declared.operands.Operand.{Operand}
-use Rattle.typing_base.specs.Views.{cause_view, operand_view}
+use Rattle.typing_base.specs.declared.notes.Notes.{Notes}
+use Rattle.typing_base.specs.Views.{cause_view, operand_view, notes_view}
 
 -- a step has this outcome: what it makes, and what is noted then; or the rule that is broken; unless memory was wanting
 abbrev pub Becomes : {A B : Type 0} → (B → A) → Outcome A → Result B Fault → Notes → Type 0
-Becomes view outcome (Ok made) notes = outcome ≡ Made (view made) notes
+Becomes view outcome (Ok made) notes = outcome ≡ Made (view made) (notes_view notes)
 Becomes view outcome (Err (F.Broken b)) notes = outcome ≡ Broken (cause_view b.cause) b.place
 Becomes view outcome (Err F.Memory) notes = Unit {0}
 

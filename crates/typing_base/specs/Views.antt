@@ -22,8 +22,9 @@ use Rattle.typing_base.specs.declared.structures.Structure.{Structure}
 use Rattle.typing_base.specs.declared.notes.Local.{Local}
 use Rattle.typing_base.specs.declared.notes.Call.{Call}
 use Rattle.typing_base.specs.declared.notes.Taken.{Taken}
-use Rattle.typing_base.specs.declared.operands.Type.{Type as PlaceType}
-use Rattle.typing_base.specs.declared.operands.Type.TheVariants as Y
+use Rattle.typing_base.specs.declared.notes.Notes.{Notes}
+use Rattle.typing_base.specs.declared.operands.PlaceType.{PlaceType}
+use Rattle.typing_base.specs.declared.operands.PlaceType.TheVariants as Y
 use Rattle.typing_base.specs.declared.operands.Operand.{Operand}
 use Rattle.typing_base.specs.declared.operands.Operand.TheVariants as O
 use Rattle.typing_base.specs.declared.scopes.Environment.{Environment}
@@ -87,6 +88,17 @@ call_view call = record { function = call.function; name = call.name; place = ca
 
 abbrev pub taken_view : Taken → p.Taken
 taken_view taken = record { variable = taken.variable; place = taken.place }
+
+abbrev pub notes_view : Notes → p.Notes
+notes_view n =
+    record {
+      locals = map local_view n.locals.items;
+      calls = map call_view n.calls.items;
+      taken = map taken_view n.taken;
+      loops = n.loops;
+      objects = n.objects;
+      cells = n.cells;
+    }
 
 -- ---- operands
 

@@ -10,7 +10,7 @@ mod structures;
 
 pub use entities::{Entity, NamedType, QualifiedType, Tagged};
 pub use faults::{Break, Cause, Fault, broken};
-pub use notes::{BodyNotes, Call, Local, Notes, Taken};
-pub use operands::{Operand, Type};
+pub use notes::{Addresses, Call, Local, Notes, Taken};
+pub use operands::{Operand, PlaceType};
 pub use scopes::{Environment, Scope};
 pub use structures::{Field, Structure};

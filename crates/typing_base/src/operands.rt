@@ -5,7 +5,7 @@ use rvt_tree::{CType, Expr, Exprs, Lvalue, Pointee};
 
 /// The type of a place, where the element type of an array is lent.
 #[derive(Clone, Copy, Debug)]
-pub enum Type<'t> {
+pub enum PlaceType<'t> {
     Word(Kind),
     /// A pointer, and whether it is one to `const`.
     Pointer(Pointee, bool),
@@ -18,7 +18,7 @@ pub enum Type<'t> {
 #[derive(Drop)]
 pub enum Operand<'t> {
     /// An lvalue: its type, and whether what it names is `const`.
-    Place(Type<'t>, bool, Lvalue),
+    Place(PlaceType<'t>, bool, Lvalue),
     /// An integer, and whether it is a constant token of value 0, which may become a null pointer.
     Integer(Kind, Expr, bool),
     /// A pointer, and whether it is one to `const`.

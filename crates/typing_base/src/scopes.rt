@@ -26,13 +26,13 @@ pub struct Scope<'t> {
 impl<'t> Scope<'t> {
     /// What a name stands for, the innermost declaration first (C 6.2.1).
     pub fn entity(self, name: &[u8]) -> Option<&'t Entity>
-        ensures { option_map (λ entity. entity_view entity.now) result ≡ in_scope (scope_view self).names name.now }
+        ensures { option_map (λ entity. entity_view entity.now) result ≡ in_scope (scope_view self.entry).names name.now }
     {
         self.environment.names.look_up(name)
     }
 
     pub fn tagged(self, name: &[u8]) -> Option<Tagged>
-        ensures { option_map tagged_view result ≡ tag_in (scope_view self).tags name.now }
+        ensures { option_map tagged_view result ≡ tag_in (scope_view self.entry).tags name.now }
     {
         match self.environment.tags.look_up(name) {
             Some(tagged) => Some(*tagged),
@@ -42,7 +42,7 @@ impl<'t> Scope<'t> {
 
     /// In the operand of a `sizeof`.
     pub fn unevaluated(self) -> Scope<'t>
-        ensures { scope_view result ≡ unevaluated (scope_view self) }
+        ensures { scope_view result ≡ unevaluated (scope_view self.entry) }
     {
         Scope {
             environment: self.environment,
@@ -51,7 +51,7 @@ impl<'t> Scope<'t> {
     }
 
     pub fn structs(self) -> &'t [Structure]
-        ensures { structures_view result.now ≡ (scope_view self).structs }
+        ensures { structures_view result.now ≡ (scope_view self.entry).structs }
     {
         self.environment.structs.as_slice()
     }
