@@ -1,2 +1,3 @@
+pub mod TakenViews
 pub mod Views
 pub mod Follows

@@ -21,7 +21,7 @@ use Rattle.typing_base.specs.declared.structures.Field.{Field}
 use Rattle.typing_base.specs.declared.structures.Structure.{Structure}
 use Rattle.typing_base.specs.declared.notes.Local.{Local}
 use Rattle.typing_base.specs.declared.notes.Call.{Call}
-use Rattle.typing_base.specs.declared.notes.Taken.{Taken}
+use Rattle.typing_base.specs.TakenViews.{taken_view}
 use Rattle.typing_base.specs.declared.notes.Notes.{Notes}
 use Rattle.typing_base.specs.declared.operands.PlaceType.{PlaceType}
 use Rattle.typing_base.specs.declared.operands.PlaceType.TheVariants as Y
@@ -85,9 +85,6 @@ local_view local = record { name = local.name; place = local.place; type = shape
 
 abbrev pub call_view : Call → p.Call
 call_view call = record { function = call.function; name = call.name; place = call.place }
-
-abbrev pub taken_view : Taken → p.Taken
-taken_view taken = record { variable = taken.variable; place = taken.place }
 
 abbrev pub notes_view : Notes → p.Notes
 notes_view n =

@@ -1,6 +1,7 @@
 //! What typing a file works on: names and what they stand for, structs, what is noted, operands, and broken rules.
 #![tactic(auto)]
 
+mod addresses;
 mod entities;
 mod faults;
 mod notes;
@@ -10,7 +11,8 @@ mod structures;
 
 pub use entities::{Entity, NamedType, QualifiedType, Tagged};
 pub use faults::{Break, Cause, Fault, broken};
-pub use notes::{Addresses, Call, Local, Notes, Taken};
+pub use addresses::{Addresses, Taken};
+pub use notes::{Call, Local, Notes};
 pub use operands::{Operand, PlaceType};
 pub use scopes::{Environment, Scope};
 pub use structures::{Field, Structure};

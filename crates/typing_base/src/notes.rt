@@ -1,20 +1,8 @@
 //! What going through a file keeps from one phrase to the next.
 
-ghost use Rattle.std.specs.Prelude.{◌≡◌, Some, map, length, [], ◌∷◌, ◌++◌, OnOk};
-ghost use Rattle.expression_typing.specs.Outcomes.{noting};
-ghost use Rattle.expression_typing.specs.Operands.{taken_of, first_taken};
-ghost use Rattle.rvt_tree.specs.declared.expressions.Variable.TheVariants as V;
-ghost use Rattle.expression_typing.specs.Progress.{nothing_noted, with_call};
-ghost use Rattle.file_typing.specs.FunctionNotes.{numbered, next_loop, of_no_function};
-ghost use Rattle.file_typing.specs.Objects.{counted_object};
-ghost use Rattle.typing_base.specs.Follows.{Becomes};
-ghost use Rattle.typing_base.specs.Kept.{objects_among};
-ghost use Rattle.typing_base.specs.Views.{local_view, call_view, taken_view};
 
-use crate::faults::{Cause, Fault, broken};
-use rvt_tree::{CType, Name, Place, Variable};
-use std::alloc::{AllocError, Global};
-use std::marker::Model;
+use crate::addresses::Addresses;
+use rvt_tree::{CType, Name, Place};
 
 /// A local or a parameter: its name and where it is declared, its type and the cells of that.
 #[derive(Debug, Drop)]
@@ -32,34 +20,6 @@ pub struct Call {
     pub function: u32,
     pub name: Name,
     pub place: Place,
-}
-
-/// A variable whose address is taken: at the `&`, or at its name where it decays.
-#[derive(Clone, Copy, Debug, PartialEq, Eq)]
-pub struct Taken {
-    pub variable: Variable,
-    pub place: Place,
-}
-
-/// The addresses that a function takes, and of each local whether it is among them.
-#[derive(Drop)]
-pub struct Addresses {
-    list: Vec<Taken>,
-    is_object: Vec<bool>,
-}
-
-impl Model for Addresses {
-    ghost use Rattle.std.specs.Prelude.{◌≡◌, ℕ, List, slice_index_or, false, map};
-    ghost use Rattle.rvt_tree.specs.declared.expressions.Variable.TheVariants as V;
-    ghost use Rattle.expression_typing.specs.Progress.{is_taken};
-    ghost use Rattle.typing_base.specs.declared.notes.Taken.{Taken};
-    ghost use Rattle.typing_base.specs.Views.{taken_view};
-
-    ghost Value = { List Taken };
-
-    ghost view = { λ a. a.list.items };
-
-    ghost invariant = { λ a. (number : ℕ) → slice_index_or a.is_object.items number false ≡ is_taken (map taken_view a.list.items) (V.Local number) };
 }
 
 /// What is noted so far.
