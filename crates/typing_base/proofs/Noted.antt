@@ -1,5 +1,5 @@
 -- One more of what is noted.
-use Rattle.std.proofs.Common.{◌≡◌, ℕ, ◌+◌, List, [], ◌∷◌, ◌++◌, map, Bool, true, false, ◌||◌, nat_eq, length, ◌<◌, ◌⊎◌, ◌≢◌, inl, inr, slice_index_or, slice_set, arith, refl, subst, sym, ◌∙◌}
+use Rattle.std.proofs.Common.{◌≡◌, ℕ, ◌+◌, List, [], ◌∷◌, ◌++◌, map, Bool, true, false, ◌||◌, nat_eq, length, ◌<◌, ◌⊎◌, ◌≢◌, inl, inr, slice_index_or, slice_set, refl, subst, sym, ◌∙◌}
 use Rattle.std.proofs.lemmas.List.{map-append, get_or-set_same, get_or-set_other}
 use Rattle.std.proofs.lemmas.List.Sums.{sum_by_push}
 use Rattle.std.proofs.lemmas.Bool.Decides.{eqb_tells}

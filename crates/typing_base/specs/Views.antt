@@ -1,7 +1,6 @@
 -- What the values of a pass that types a file stand for.
-use Rattle.std.specs.Prelude.{ℕ, List, map, Bool, option_map}
+use Rattle.std.specs.Prelude.{List, map, Bool}
 use Rattle.rvt_tree.specs.Views.{lvalue_view, expr_view, exprs_view}
-use Rattle.rvt_tree.specs.declared.types.CType.{CType}
 use Rattle.c_types.specs.Layout as l
 use Rattle.c_types.specs.Layout.{Shape, shape_of}
 use Rattle.expression_typing.specs.Outcomes as o
