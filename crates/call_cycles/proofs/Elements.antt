@@ -1,5 +1,6 @@
 -- Where the elements of mapped and joined lists stand.
-use Rattle.std.proofs.Common.{◌≡◌, ◌⊎◌, inl, inr, ℕ, zero, suc, ◌+◌, ◌<◌, List, [], ◌∷◌, ◌++◌, map, flat_map, length, Some, None, take, refl, sym, ap, subst, arith}
+use Rattle.std.proofs.Common.{◌≡◌, ◌⊎◌, inl, inr, ℕ, zero, suc, ◌+◌, ◌<◌, List, [], ◌∷◌, ◌++◌, map, flat_map, length, Some, None, take, refl, sym, ap, subst, arith, get_or, ◌∙◌}
+use Rattle.std.proofs.lemmas.List.{flat_map_more, take_more}
 use Rattle.call_graph.proofs.Lists.{append_keeps, append_new, append_cases}
 use Rattle.call_graph.specs.Graphs.{At}
 
@@ -29,3 +30,7 @@ pub flat_map_at : {X Y : Type 0} (f : X → List Y) (xs : List X) (i : ℕ) (x :
 flat_map_at f [] i x j y h g = absurd (let q : None ≡ Some x = h in cc)
 flat_map_at f (z ∷ xs) zero x j y h g = let same : x ≡ z = cc in (j, append_keeps (f z) (flat_map f xs) j y (subst (λ w. At (f w) j y) same g))
 flat_map_at f (z ∷ xs) (suc i) x j y h g = let r = flat_map_at f xs i x j y h g in (length (f z) + r.0, append_new (f z) (flat_map f xs) r.0 (length (f z) + r.0) y refl r.1)
+
+-- the list of one element more, beside what stood before
+pub flat_map_next : {X Y : Type 0} (f : X → List Y) (before : List Y) (xs : List X) (i : ℕ) (d : X) → i < length xs → (before ++ flat_map f (take i xs)) ++ f (get_or xs i d) ≡ before ++ flat_map f (take (i + 1) xs)
+flat_map_next f before xs i d h = flat_map_more f before (take i xs) (get_or xs i d) ∙ ap (λ l. before ++ flat_map f l) (sym (take_more xs i d h))

@@ -1,8 +1,8 @@
 -- The first call of a function without a body.
-use Rattle.std.proofs.Common.{◌≡◌, ℕ, zero, suc, ◌<◌, List, [], ◌∷◌, ◌++◌, map, flat_map, length, Bool, true, false, not, cond, Option, Some, None, option_map, refl, sym, ap, ◌∙◌, subst, arith}
+use Rattle.std.proofs.Common.{◌≡◌, ℕ, zero, suc, ◌+◌, ◌<◌, List, [], ◌∷◌, ◌++◌, map, flat_map, length, Bool, true, false, not, cond, Option, Some, None, option_map, refl, sym, ap, ◌∙◌, subst, arith, drop, get_or}
 use Rattle.std.specs.List.{find}
 use Rattle.std.specs.Prelude.{slice_get}
-use Rattle.std.proofs.lemmas.List.{length-map}
+use Rattle.std.proofs.lemmas.List.{length-map, at_drop_more}
 use Rattle.call_graph.specs.Graphs.{At, Edge, IsGraph}
 use Rattle.call_cycles.specs.declared.notes.Call.{Call}
 use Rattle.call_cycles.specs.declared.notes.FunctionNotes.{FunctionNotes}
@@ -43,6 +43,21 @@ module _ {X : Type 0} (p : X → Bool) where
   none_passes [] k x h a = absurd (let q : None ≡ Some x = a in cc)
   none_passes (y ∷ xs) zero x h a = let same : y ≡ x = cc in subst (λ z. p z ≡ false) same (none_first (p y) y (find p xs) h).0
   none_passes (y ∷ xs) (suc k) x h a = none_passes xs k x (none_first (p y) y (find p xs) h).1 a
+
+-- ---- function by function
+
+module _ (p : Call → Bool) where
+  -- what is found in the functions from one on, when the next is passed
+  found_from : (functions : List FunctionNotes) (n : ℕ) (notes : FunctionNotes) → n < length functions → notes ≡ get_or functions n notes → find p (all_calls (drop n functions)) ≡ find p (notes.calls.items ++ all_calls (drop (n + 1) functions))
+  found_from functions n notes h is =
+      let more = at_drop_more (λ fs. find p (all_calls fs)) functions n notes h in
+      subst (λ (w : FunctionNotes). find p (all_calls (drop n functions)) ≡ find p (w.calls.items ++ all_calls (drop (n + 1) functions))) (sym is) more
+
+  pub none_in_this : (functions : List FunctionNotes) (n : ℕ) (notes : FunctionNotes) → n < length functions → notes ≡ get_or functions n notes → find p notes.calls.items ≡ None → find p (all_calls (drop n functions)) ≡ find p (all_calls functions) → find p (all_calls (drop (n + 1) functions)) ≡ find p (all_calls functions)
+  none_in_this functions n notes h is none before = sym (find-append_none p notes.calls.items (all_calls (drop (n + 1) functions)) none) ∙ sym (found_from functions n notes h is) ∙ before
+
+  pub found_in_this : (functions : List FunctionNotes) (n : ℕ) (notes : FunctionNotes) (call : Call) → n < length functions → notes ≡ get_or functions n notes → find p notes.calls.items ≡ Some call → find p (all_calls (drop n functions)) ≡ find p (all_calls functions) → find p (all_calls functions) ≡ Some call
+  found_in_this functions n notes call h is found before = sym before ∙ found_from functions n notes h is ∙ find-append_some p notes.calls.items (all_calls (drop (n + 1) functions)) call found
 
 -- ---- where each call is one of a function with a body
 
