@@ -9,7 +9,7 @@ use Rattle.rvt_tree.specs.declared.expressions.Variable.TheVariants as V
 use Rattle.expression_typing.specs.Progress.{Taken as TakenRecord}
 use Rattle.call_graph.proofs.Lists.{append_keeps, append_new, append_cases}
 use Rattle.call_graph.specs.Graphs.{At}
-use Rattle.file_typing.specs.CallCycles.{IsOnCycle, TakesLocal, IsAddressOnCycle, IsFirstAddressOnCycle, HasNoAddressOnCycle, call_graph}
+use Rattle.file_typing.specs.CallCycles.{IsOnCycle, IsAddressOnCycle, IsFirstAddressOnCycle, HasNoAddressOnCycle}
 use Rattle.file_typing.specs.FileScope.{FunctionEntry, Body}
 use Rattle.call_cycles.specs.declared.notes.FunctionNotes.{FunctionNotes}
 use Rattle.call_cycles.specs.declared.notes.Taken.{Taken}
@@ -124,8 +124,7 @@ module _ (flags : List Bool) (functions : List FunctionNotes) (cycles : (number 
       let there : At (map noted entries) f.number (notes_view f.notes) = subst (λ (l : List Noted). At l f.number (notes_view f.notes)) same (map_at notes_view functions f.number f.notes f.is_there) in
       let entry = at_map noted entries f.number (notes_view f.notes) there in
       let one = map_at taken_view f.notes.taken.items f.k (record { variable = V.Local f.local; place = place }) f.taken in
-      let body = in_body entry.0.body (map taken_view f.notes.taken.items) f.k (record { variable = V.Local f.local; place = place }) (ap (λ (n : Noted). n.taken) entry.2) one in
-      (
+      let body = in_body entry.0.body (map taken_view f.notes.taken.items) f.k (record { variable = V.Local f.local; place = place }) (ap (λ (n : Noted). n.taken) entry.2) one in (
         f.number,
         record { entry = entry.0; is_there = entry.1; body = body.0; its_body = body.1; local = f.local; k = f.k; taken = body.2 },
         subst (λ (g : List (List ℕ)). IsOnCycle g f.number) (same_graph functions entries same) ((cycles f.number).0 f.flagged),
@@ -145,8 +144,8 @@ module _ (flags : List Bool) (functions : List FunctionNotes) (cycles : (number 
 
   pub first_address : (found : Option Place) → IsFirstOf (cycle_places flags functions) found → MatchOption found (HasNoAddressOnCycle entries) (IsFirstAddressOnCycle entries)
   first_address None none = λ at taken.
-    let r = address_place at taken in
-    absurd (let q : None ≡ Some at = subst (λ (l : List Place). At l r.0 at) none r.1 in cc)
+      let r = address_place at taken in
+      absurd (let q : None ≡ Some at = subst (λ (l : List Place). At l r.0 at) none r.1 in cc)
   first_address (Some at) first =
       record {
         there = flagged_address at (place_flagged flags functions first.0.0 at first.0.1);

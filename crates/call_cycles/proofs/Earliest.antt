@@ -1,5 +1,5 @@
 -- The first of some places when there is one more.
-use Rattle.std.proofs.Common.{◌≡◌, ◌⊎◌, inl, inr, ℕ, zero, suc, ◌<◌, ◌≤◌, List, [], ◌∷◌, ◌++◌, Some, None, length, refl, sym, subst, arith}
+use Rattle.std.proofs.Common.{◌≡◌, ◌⊎◌, inl, inr, ℕ, zero, suc, List, [], ◌∷◌, ◌++◌, Some, None, length, refl, sym, subst, arith}
 use Rattle.rvt_tree.specs.declared.places.Place.{Place}
 use Rattle.call_graph.specs.Graphs.{At}
 use Rattle.call_graph.proofs.Lists.{append_keeps, push_new, push_cases}

@@ -1,5 +1,5 @@
 -- Where the elements of mapped and joined lists stand.
-use Rattle.std.proofs.Common.{◌≡◌, ◌⊎◌, inl, inr, ℕ, zero, suc, ◌+◌, ◌<◌, List, [], ◌∷◌, ◌++◌, map, flat_map, length, Some, None, take, refl, sym, ap, subst, arith, get_or, ◌∙◌}
+use Rattle.std.proofs.Common.{◌≡◌, inl, inr, ℕ, zero, suc, ◌+◌, ◌<◌, List, [], ◌∷◌, ◌++◌, map, flat_map, length, Some, None, take, refl, sym, ap, subst, get_or, ◌∙◌}
 use Rattle.std.proofs.lemmas.List.{flat_map_more, take_more}
 use Rattle.call_graph.proofs.Lists.{append_keeps, append_new, append_cases}
 use Rattle.call_graph.specs.Graphs.{At}

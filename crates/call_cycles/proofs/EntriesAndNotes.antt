@@ -1,5 +1,5 @@
 -- What the notes of functions say of the entries whose notes they are.
-use Rattle.std.proofs.Common.{◌≡◌, ℕ, zero, suc, List, [], ◌∷◌, ◌++◌, map, flat_map, length, Bool, true, false, not, cond, Option, Some, None, option_map, refl, sym, ap, ◌∙◌, subst}
+use Rattle.std.proofs.Common.{◌≡◌, ℕ, List, [], ◌∷◌, ◌++◌, map, flat_map, Bool, true, false, not, cond, Option, Some, None, option_map, refl, sym, ap, ◌∙◌}
 use Rattle.std.specs.List.{find}
 use Rattle.std.specs.Prelude.{slice_get}
 use Rattle.std.proofs.lemmas.List.{map-append}
@@ -30,7 +30,7 @@ by_notes (Some notes) = refl
 same_bodies : (functions : List FunctionNotes) (entries : List FunctionEntry) → AreNotesOf functions entries → (number : ℕ) → is_defined functions number ≡ has_body entries number
 same_bodies functions entries same number =
     let there : option_map notes_view (slice_get functions number) ≡ option_map noted (slice_get entries number) =
-      sym (slice_get-map notes_view functions number) ∙ (ap (λ list. slice_get list number) same ∙ slice_get-map noted entries number)
+    sym (slice_get-map notes_view functions number) ∙ (ap (λ list. slice_get list number) same ∙ slice_get-map noted entries number)
     in
     by_notes (slice_get functions number) ∙ (ap defined_in there ∙ sym (by_entries entries number (slice_get entries number) refl))
 

@@ -1,9 +1,8 @@
 -- The first call of a function without a body.
-use Rattle.std.proofs.Common.{◌≡◌, ℕ, zero, suc, ◌+◌, ◌<◌, List, [], ◌∷◌, ◌++◌, map, flat_map, length, Bool, true, false, not, cond, Option, Some, None, option_map, refl, sym, ap, ◌∙◌, subst, arith, drop, get_or}
+use Rattle.std.proofs.Common.{◌≡◌, ℕ, zero, suc, ◌+◌, ◌<◌, List, [], ◌∷◌, ◌++◌, map, flat_map, length, Bool, true, false, not, cond, Option, Some, None, refl, sym, ◌∙◌, subst, arith, drop, get_or}
 use Rattle.std.specs.List.{find}
-use Rattle.std.specs.Prelude.{slice_get}
 use Rattle.std.proofs.lemmas.List.{length-map, at_drop_more}
-use Rattle.call_graph.specs.Graphs.{At, Edge, IsGraph}
+use Rattle.call_graph.specs.Graphs.{At, IsGraph}
 use Rattle.call_cycles.specs.declared.notes.Call.{Call}
 use Rattle.call_cycles.specs.declared.notes.FunctionNotes.{FunctionNotes}
 use Rattle.call_cycles.specs.Noted.{is_defined, calls_between}

@@ -1,4 +1,4 @@
-use Rattle.std.proofs.Common.{List, ◌++◌, flat_map, get_or, subst}
+use Rattle.std.proofs.Common.{List, ◌++◌, flat_map, subst}
 use Rattle.std.proofs.lemmas.List.{take_all}
 use Rattle.rvt_tree.specs.declared.places.Place.{Place}
 use Rattle.call_cycles.specs.declared.notes.Taken.{Taken}

@@ -1,8 +1,6 @@
-use Rattle.std.proofs.Common.{◌≡◌, ◌∙◌, Some, None, option_map, drop, sym, ap, subst}
+use Rattle.std.proofs.Common.{◌≡◌, ◌∙◌, Some, None, option_map, sym, ap}
 use Rattle.std.specs.List.{find}
 use Rattle.std.proofs.lemmas.List.{drop_all}
-use Rattle.call_cycles.specs.declared.notes.Call.{Call}
-use Rattle.call_cycles.specs.declared.notes.FunctionNotes.{FunctionNotes}
 use Rattle.call_cycles.specs.Noted.{call_view}
 use Rattle.call_cycles.proofs.EntriesAndNotes.{missing_call_is}
 use Rattle.call_cycles.proofs.MissingCalls.{lacks_body, all_calls, none_in_this, found_in_this, calls_known}
