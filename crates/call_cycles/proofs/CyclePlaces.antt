@@ -19,7 +19,7 @@ use Rattle.call_cycles.proofs.Elements.{at_map, map_at, at_flat_map, flat_map_at
 use Rattle.call_cycles.proofs.EntriesAndNotes.{same_graph}
 
 abbrev pub places_in : Bool → FunctionNotes → List Place
-places_in true notes = flat_map local_place notes.taken.items
+places_in true notes = flat_map local_place notes.taken.now
 places_in false notes = []
 
 -- in the functions with a flag
@@ -64,7 +64,7 @@ pub record IsFlagged (flags : List Bool) (functions : List FunctionNotes) (place
   pub is_there : At functions number notes
   pub local : ℕ
   pub k : ℕ
-  pub taken : At notes.taken.items k (record { variable = V.Local local; place = place })
+  pub taken : At notes.taken.now k (record { variable = V.Local local; place = place })
 
 taken_of : (taken : Taken) (variable : Variable) (place : Place) → taken.variable ≡ variable → taken.place ≡ place → taken ≡ record { variable = variable; place = place }
 taken_of taken variable place e p =
@@ -84,9 +84,9 @@ only_local taken j place h = by_variable taken.variable refl where
 flagged_here : (flag : Bool) (flags : List Bool) (notes : FunctionNotes) (functions : List FunctionNotes) (k : ℕ) (place : Place) → At (places_in flag notes) k place → IsFlagged (flag ∷ flags) (notes ∷ functions) place
 flagged_here false flags notes functions k place h = absurd (let q : None ≡ Some place = h in cc)
 flagged_here true flags notes functions k place h =
-    let found = at_flat_map local_place notes.taken.items k place h in
+    let found = at_flat_map local_place notes.taken.now k place h in
     let one = only_local found.1 found.2 place found.4 in
-    record { number = 0; flagged = refl; notes = notes; is_there = refl; local = one.0; k = found.0; taken = subst (λ (t : Taken). At notes.taken.items found.0 t) one.1 found.3 }
+    record { number = 0; flagged = refl; notes = notes; is_there = refl; local = one.0; k = found.0; taken = subst (λ (t : Taken). At notes.taken.now found.0 t) one.1 found.3 }
 
 pub place_flagged : (flags : List Bool) (functions : List FunctionNotes) (k : ℕ) (place : Place) → At (cycle_places flags functions) k place → IsFlagged flags functions place
 place_flagged [] functions k place h = absurd (let q : None ≡ Some place = h in cc)
@@ -98,13 +98,13 @@ place_flagged (flag ∷ flags) (notes ∷ functions) k place h = elim (append_ca
       record { number = suc r.number; flagged = r.flagged; notes = r.notes; is_there = r.is_there; local = r.local; k = r.k; taken = r.taken }
 ]
 
-pub flagged_place : (flags : List Bool) (functions : List FunctionNotes) (number : ℕ) (notes : FunctionNotes) (local j : ℕ) (place : Place) → At flags number true → At functions number notes → At notes.taken.items j (record { variable = V.Local local; place = place }) → (k : ℕ) × At (cycle_places flags functions) k place
+pub flagged_place : (flags : List Bool) (functions : List FunctionNotes) (number : ℕ) (notes : FunctionNotes) (local j : ℕ) (place : Place) → At flags number true → At functions number notes → At notes.taken.now j (record { variable = V.Local local; place = place }) → (k : ℕ) × At (cycle_places flags functions) k place
 flagged_place [] functions number notes local j place a b h = absurd (let q : None ≡ Some true = a in cc)
 flagged_place (flag ∷ flags) [] number notes local j place a b h = absurd (let q : None ≡ Some notes = b in cc)
 flagged_place (flag ∷ flags) (one ∷ functions) zero notes local j place a b h =
     let e : flag ≡ true = cc in
     let f : one ≡ notes = cc in
-    let there : (k : ℕ) × At (flat_map local_place notes.taken.items) k place = flat_map_at local_place notes.taken.items j (record { variable = V.Local local; place = place }) 0 place h refl in
+    let there : (k : ℕ) × At (flat_map local_place notes.taken.now) k place = flat_map_at local_place notes.taken.now j (record { variable = V.Local local; place = place }) 0 place h refl in
     let here : At (places_in flag one) there.0 place = subst (λ b. At (places_in b one) there.0 place) (sym e) (subst (λ (w : FunctionNotes). At (places_in true w) there.0 place) (sym f) there.1) in
     (there.0, append_keeps (places_in flag one) (cycle_places flags functions) there.0 place here)
 flagged_place (flag ∷ flags) (one ∷ functions) (suc number) notes local j place a b h =
@@ -123,8 +123,8 @@ module _ (flags : List Bool) (functions : List FunctionNotes) (cycles : (number 
   flagged_address place f =
       let there : At (map noted entries) f.number (notes_view f.notes) = subst (λ (l : List Noted). At l f.number (notes_view f.notes)) same (map_at notes_view functions f.number f.notes f.is_there) in
       let entry = at_map noted entries f.number (notes_view f.notes) there in
-      let one = map_at taken_view f.notes.taken.items f.k (record { variable = V.Local f.local; place = place }) f.taken in
-      let body = in_body entry.0.body (map taken_view f.notes.taken.items) f.k (record { variable = V.Local f.local; place = place }) (ap (λ (n : Noted). n.taken) entry.2) one in (
+      let one = map_at taken_view f.notes.taken.now f.k (record { variable = V.Local f.local; place = place }) f.taken in
+      let body = in_body entry.0.body (map taken_view f.notes.taken.now) f.k (record { variable = V.Local f.local; place = place }) (ap (λ (n : Noted). n.taken) entry.2) one in (
         f.number,
         record { entry = entry.0; is_there = entry.1; body = body.0; its_body = body.1; local = f.local; k = f.k; taken = body.2 },
         subst (λ (g : List (List ℕ)). IsOnCycle g f.number) (same_graph functions entries same) ((cycles f.number).0 f.flagged),
@@ -135,10 +135,10 @@ module _ (flags : List Bool) (functions : List FunctionNotes) (cycles : (number 
       let there : At (map notes_view functions) number (noted takes.entry) = subst (λ (l : List Noted). At l number (noted takes.entry)) (sym same) (map_at noted entries number takes.entry takes.is_there) in
       let notes = at_map notes_view functions number (noted takes.entry) there in
       let all : taken_in takes.entry.body ≡ takes.body.taken = ap taken_in takes.its_body in
-      let seen : map taken_view notes.0.taken.items ≡ takes.body.taken = ap (λ (n : Noted). n.taken) notes.2 ∙ all in
-      let one = at_map taken_view notes.0.taken.items takes.k (record { variable = V.Local takes.local; place = place }) (subst (λ (l : List TakenRecord). At l takes.k (record { variable = V.Local takes.local; place = place })) (sym seen) takes.taken) in
+      let seen : map taken_view notes.0.taken.now ≡ takes.body.taken = ap (λ (n : Noted). n.taken) notes.2 ∙ all in
+      let one = at_map taken_view notes.0.taken.now takes.k (record { variable = V.Local takes.local; place = place }) (subst (λ (l : List TakenRecord). At l takes.k (record { variable = V.Local takes.local; place = place })) (sym seen) takes.taken) in
       let back : TakenRecord → Taken = λ (t : TakenRecord). record { variable = t.variable; place = t.place } in
-      let item : At notes.0.taken.items takes.k (record { variable = V.Local takes.local; place = place }) = subst (λ (t : Taken). At notes.0.taken.items takes.k t) (ap back one.2) one.1 in
+      let item : At notes.0.taken.now takes.k (record { variable = V.Local takes.local; place = place }) = subst (λ (t : Taken). At notes.0.taken.now takes.k t) (ap back one.2) one.1 in
       let flag : At flags number true = (cycles number).1 (subst (λ (g : List (List ℕ)). IsOnCycle g number) (sym (same_graph functions entries same)) cycle) in
       flagged_place flags functions number notes.0 takes.local takes.k place flag notes.1 item
 

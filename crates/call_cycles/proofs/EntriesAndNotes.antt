@@ -45,7 +45,7 @@ calls_of_entries (entry ∷ entries) = ap (λ rest. calls_in entry.body ++ rest)
 
 calls_of_notes : (functions : List FunctionNotes) → calls_of (map notes_view functions) ≡ map call_view (all_calls functions)
 calls_of_notes [] = refl
-calls_of_notes (notes ∷ functions) = ap (λ rest. map call_view notes.calls.items ++ rest) (calls_of_notes functions) ∙ sym (map-append call_view notes.calls.items (all_calls functions))
+calls_of_notes (notes ∷ functions) = ap (λ rest. map call_view notes.calls.now ++ rest) (calls_of_notes functions) ∙ sym (map-append call_view notes.calls.now (all_calls functions))
 
 same_calls : (functions : List FunctionNotes) (entries : List FunctionEntry) → AreNotesOf functions entries → map call_view (all_calls functions) ≡ flat_map (λ entry. calls_in entry.body) entries
 same_calls functions entries same = sym (calls_of_notes functions) ∙ (ap calls_of same ∙ calls_of_entries entries)
@@ -75,7 +75,7 @@ graph_of_all all = map (λ one. map (λ call. call.function) one.calls) all
 
 graph_of_notes : (functions : List FunctionNotes) → graph_of_all (map notes_view functions) ≡ calls_between functions
 graph_of_notes [] = refl
-graph_of_notes (notes ∷ functions) = let row = map-map (λ (call : CallRecord). call.function) call_view notes.calls.items in let rest = graph_of_notes functions in cc
+graph_of_notes (notes ∷ functions) = let row = map-map (λ (call : CallRecord). call.function) call_view notes.calls.now in let rest = graph_of_notes functions in cc
 
 pub same_graph : (functions : List FunctionNotes) (entries : List FunctionEntry) → AreNotesOf functions entries → calls_between functions ≡ call_graph entries
 same_graph functions entries same =

@@ -12,7 +12,7 @@ abbrev pub lacks_body : List FunctionNotes → Call → Bool
 lacks_body functions call = not (is_defined functions call.function)
 
 abbrev pub all_calls : List FunctionNotes → List Call
-all_calls functions = flat_map (λ notes. notes.calls.items) functions
+all_calls functions = flat_map (λ notes. notes.calls.now) functions
 
 -- ---- the first that passes a test
 
@@ -47,16 +47,16 @@ module _ {X : Type 0} (p : X → Bool) where
 
 module _ (p : Call → Bool) where
   -- what is found in the functions from one on, when the next is passed
-  found_from : (functions : List FunctionNotes) (n : ℕ) (notes : FunctionNotes) → n < length functions → notes ≡ get_or functions n notes → find p (all_calls (drop n functions)) ≡ find p (notes.calls.items ++ all_calls (drop (n + 1) functions))
+  found_from : (functions : List FunctionNotes) (n : ℕ) (notes : FunctionNotes) → n < length functions → notes ≡ get_or functions n notes → find p (all_calls (drop n functions)) ≡ find p (notes.calls.now ++ all_calls (drop (n + 1) functions))
   found_from functions n notes h is =
       let more = at_drop_more (λ fs. find p (all_calls fs)) functions n notes h in
-      subst (λ (w : FunctionNotes). find p (all_calls (drop n functions)) ≡ find p (w.calls.items ++ all_calls (drop (n + 1) functions))) (sym is) more
+      subst (λ (w : FunctionNotes). find p (all_calls (drop n functions)) ≡ find p (w.calls.now ++ all_calls (drop (n + 1) functions))) (sym is) more
 
-  pub none_in_this : (functions : List FunctionNotes) (n : ℕ) (notes : FunctionNotes) → n < length functions → notes ≡ get_or functions n notes → find p notes.calls.items ≡ None → find p (all_calls (drop n functions)) ≡ find p (all_calls functions) → find p (all_calls (drop (n + 1) functions)) ≡ find p (all_calls functions)
-  none_in_this functions n notes h is none before = sym (find-append_none p notes.calls.items (all_calls (drop (n + 1) functions)) none) ∙ sym (found_from functions n notes h is) ∙ before
+  pub none_in_this : (functions : List FunctionNotes) (n : ℕ) (notes : FunctionNotes) → n < length functions → notes ≡ get_or functions n notes → find p notes.calls.now ≡ None → find p (all_calls (drop n functions)) ≡ find p (all_calls functions) → find p (all_calls (drop (n + 1) functions)) ≡ find p (all_calls functions)
+  none_in_this functions n notes h is none before = sym (find-append_none p notes.calls.now (all_calls (drop (n + 1) functions)) none) ∙ sym (found_from functions n notes h is) ∙ before
 
-  pub found_in_this : (functions : List FunctionNotes) (n : ℕ) (notes : FunctionNotes) (call : Call) → n < length functions → notes ≡ get_or functions n notes → find p notes.calls.items ≡ Some call → find p (all_calls (drop n functions)) ≡ find p (all_calls functions) → find p (all_calls functions) ≡ Some call
-  found_in_this functions n notes call h is found before = sym before ∙ found_from functions n notes h is ∙ find-append_some p notes.calls.items (all_calls (drop (n + 1) functions)) call found
+  pub found_in_this : (functions : List FunctionNotes) (n : ℕ) (notes : FunctionNotes) (call : Call) → n < length functions → notes ≡ get_or functions n notes → find p notes.calls.now ≡ Some call → find p (all_calls (drop n functions)) ≡ find p (all_calls functions) → find p (all_calls functions) ≡ Some call
+  found_in_this functions n notes call h is found before = sym before ∙ found_from functions n notes h is ∙ find-append_some p notes.calls.now (all_calls (drop (n + 1) functions)) call found
 
 -- ---- where each call is one of a function with a body
 
@@ -71,14 +71,14 @@ not_false false h = absurd (let q : true ≡ false = h in cc)
 
 pub calls_known : (functions : List FunctionNotes) → find (lacks_body functions) (all_calls functions) ≡ None → IsGraph (calls_between functions)
 calls_known functions none u v edge = omega (arith, within, sizes) where
-  row : (notes : FunctionNotes) × At functions u notes × (map (λ (call : Call). call.function) notes.calls.items ≡ edge.successors)
-  row = at_map (λ (notes : FunctionNotes). map (λ (call : Call). call.function) notes.calls.items) functions u edge.successors edge.is_there
+  row : (notes : FunctionNotes) × At functions u notes × (map (λ (call : Call). call.function) notes.calls.now ≡ edge.successors)
+  row = at_map (λ (notes : FunctionNotes). map (λ (call : Call). call.function) notes.calls.now) functions u edge.successors edge.is_there
 
-  called : (call : Call) × At row.0.calls.items edge.place call × (call.function ≡ v)
-  called = at_map (λ (call : Call). call.function) row.0.calls.items edge.place v (subst (λ (l : List ℕ). At l edge.place v) (sym row.2) edge.leads)
+  called : (call : Call) × At row.0.calls.now edge.place call × (call.function ≡ v)
+  called = at_map (λ (call : Call). call.function) row.0.calls.now edge.place v (subst (λ (l : List ℕ). At l edge.place v) (sym row.2) edge.leads)
 
   among : (k : ℕ) × At (all_calls functions) k called.0
-  among = flat_map_at (λ (notes : FunctionNotes). notes.calls.items) functions u row.0 edge.place called.0 row.1 called.1
+  among = flat_map_at (λ (notes : FunctionNotes). notes.calls.now) functions u row.0 edge.place called.0 row.1 called.1
 
   passes : is_defined functions called.0.function ≡ true
   passes = not_false _ (none_passes (lacks_body functions) (all_calls functions) among.0 called.0 none among.1)
@@ -87,4 +87,4 @@ calls_known functions none u v edge = omega (arith, within, sizes) where
   within = defined_within functions v (subst (λ n. is_defined functions n ≡ true) called.2 passes)
 
   sizes : length (calls_between functions) ≡ length functions
-  sizes = length-map functions (λ (notes : FunctionNotes). map (λ (call : Call). call.function) notes.calls.items)
+  sizes = length-map functions (λ (notes : FunctionNotes). map (λ (call : Call). call.function) notes.calls.now)

@@ -28,7 +28,7 @@ abbrev pub noted : FunctionEntry → Noted
 noted entry = record { defined = is_some entry.body; calls = calls_in entry.body; taken = taken_in entry.body }
 
 abbrev pub notes_view : FunctionNotes → Noted
-notes_view notes = record { defined = notes.defined; calls = map call_view notes.calls.items; taken = map taken_view notes.taken.items }
+notes_view notes = record { defined = notes.defined; calls = map call_view notes.calls.now; taken = map taken_view notes.taken.now }
 
 -- the notes are those of the entries, in their order
 abbrev pub AreNotesOf : List FunctionNotes → List FunctionEntry → Type 0
@@ -36,7 +36,7 @@ AreNotesOf notes entries = map notes_view notes ≡ map noted entries
 
 -- the functions that each function calls
 abbrev pub calls_between : List FunctionNotes → List (List ℕ)
-calls_between functions = map (λ notes. map (λ call. call.function) notes.calls.items) functions
+calls_between functions = map (λ notes. map (λ call. call.function) notes.calls.now) functions
 
 abbrev pub defined_there : Option FunctionNotes → Bool
 defined_there None = false

@@ -25,7 +25,7 @@ pub fn address_on_cycle(alloc: Global, functions: &[FunctionNotes]) -> Result<Op
         if !flags[number] {
             continue;
         }
-        first = with_addresses(first, functions[number].taken.as_slice());
+        first = with_addresses(first, functions[number].taken);
     }
     Ok(first)
 }

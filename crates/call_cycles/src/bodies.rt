@@ -8,12 +8,12 @@ ghost use Rattle.call_cycles.specs.Noted.{call_view, AreNotesOf, calls_between, 
 use crate::notes::{Call, FunctionNotes};
 
 /// The first call, in the order of the source, of a function that has no body at the end of the file.
-pub fn missing_body(functions: &[FunctionNotes]) -> Option<&Call>
+pub fn missing_body<'a>(functions: &[FunctionNotes<'a>]) -> Option<&'a Call>
     ensures first { (entries : List FunctionEntry) → AreNotesOf functions.now entries → option_map call_view (option_copied result) ≡ first_without_body entries }
     ensures known { IfNone result (IsGraph (calls_between functions.now)) }
 {
     'functions: for function in functions {
-        match missing_in(functions, function.calls.as_slice()) {
+        match missing_in(functions, function.calls) {
             Some(call) => return Some(call),
             None => {}
         }

@@ -24,7 +24,7 @@ fn graph_of(alloc: Global, functions: &[FunctionNotes]) -> Result<Graph, Memory>
 {
     let mut successors = Vec::new(alloc);
     'functions: for function in functions {
-        let called = functions_called(alloc, function.calls.as_slice())?;
+        let called = functions_called(alloc, function.calls)?;
         match successors.push(called) {
             Ok(()) => {}
             Err(_) => return Err(Memory),

@@ -16,9 +16,10 @@ pub struct Taken {
 }
 
 /// What is noted of a function: whether it has a body, and the calls in that and the addresses that it takes, in order.
-#[derive(Debug, Drop)]
-pub struct FunctionNotes {
+/// A function without a body has neither.
+#[derive(Clone, Copy)]
+pub struct FunctionNotes<'a> {
     pub defined: bool,
-    pub calls: Vec<Call>,
-    pub taken: Vec<Taken>,
+    pub calls: &'a [Call],
+    pub taken: &'a [Taken],
 }

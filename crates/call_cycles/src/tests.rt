@@ -21,13 +21,19 @@ fn object_at(place: Place) -> Taken {
     }
 }
 
+#[derive(Drop)]
+struct Function {
+    calls: Vec<Call>,
+    taken: Vec<Taken>,
+}
+
 // A function on a line of its own, with a body in which these functions are called and these addresses are taken.
 fn defined(
     alloc: Global,
     line: u32,
     called: &[u32],
     addresses: &[Taken],
-) -> Result<FunctionNotes, Memory> {
+) -> Result<Function, Memory> {
     let mut calls = Vec::new(alloc);
     for function in called {
         let name = match Name::new(alloc, b"f") {
@@ -48,20 +54,33 @@ fn defined(
         Ok(taken) => taken,
         Err(_) => return Err(Memory),
     };
-    Ok(FunctionNotes {
-        defined: true,
-        calls,
-        taken,
-    })
+    Ok(Function { calls, taken })
 }
 
-fn address_sought(alloc: Global, functions: &[FunctionNotes]) -> Result<Option<Place>, Memory> {
-    if functions.len() > 100 {
+fn notes_of(alloc: Global, functions: &[Function]) -> Result<Vec<FunctionNotes<'_>>, Memory> {
+    let mut notes = Vec::new(alloc);
+    for function in functions {
+        let note = FunctionNotes {
+            defined: true,
+            calls: function.calls.as_slice(),
+            taken: function.taken.as_slice(),
+        };
+        match notes.push(note) {
+            Ok(()) => {}
+            Err(_) => return Err(Memory),
+        }
+    }
+    Ok(notes)
+}
+
+fn address_sought(alloc: Global, functions: &[Function]) -> Result<Option<Place>, Memory> {
+    let notes = notes_of(alloc, functions)?;
+    if notes.len() > 100 {
         return Err(Memory);
     }
-    match missing_body(functions) {
+    match missing_body(notes.as_slice()) {
         Some(_) => Err(Memory),
-        None => address_on_cycle(alloc, functions),
+        None => address_on_cycle(alloc, notes.as_slice()),
     }
 }
 
@@ -102,7 +121,8 @@ fn no_cycle_and_a_missing_body(rt: HostRuntime) -> Result<(), Fail> {
     let found = address_sought(alloc, functions.as_slice())?;
     assert_eq!(rt; found, None);
     functions.push(defined(alloc, 3, &[0, 3], &[])?)?;
-    let missing = match missing_body(functions.as_slice()) {
+    let notes = notes_of(alloc, functions.as_slice())?;
+    let missing = match missing_body(notes.as_slice()) {
         Some(call) => call.function,
         None => 0,
     };

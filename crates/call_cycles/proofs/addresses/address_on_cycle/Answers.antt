@@ -13,10 +13,10 @@ functions-preserved c =
     let functions = c.args.functions.now in
     let notes = c.index-functions-number.result in
     let before = cycle_places (take n flags) (take n functions) in
-    let taken : c.as_slice.result.now ≡ notes.taken.items = c.as_slice.ensures.value ∙ ap (λ (w : FunctionNotes). w.taken.items) (sym c.index-functions-number.is) in
+    let taken : (get_or functions n notes).taken.now ≡ notes.taken.now = ap (λ (w : FunctionNotes). w.taken.now) (sym c.index-functions-number.is) in
     let flag : true ≡ get_or flags n true = subst (λ b. b ≡ get_or flags n b) c.if-not-index.false c.index.ensures in
     let next = next_places flags functions n true notes c.in_ok-flags.ensures.length c.functions-test.true flag c.index-functions-number.is in
-    let more : IsFirstOf (before ++ flat_map local_place notes.taken.items) c.with_addresses-first.result =
+    let more : IsFirstOf (before ++ flat_map local_place notes.taken.now) c.with_addresses-first.result =
     subst (λ (l : List Taken). IsFirstOf (before ++ flat_map local_place l) c.with_addresses-first.result) taken (c.with_addresses-first.ensures before c.functions.invariant)
     in
     subst (λ (ps : List Place). IsFirstOf ps c.with_addresses-first.result) (sym next) more

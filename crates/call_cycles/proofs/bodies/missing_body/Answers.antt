@@ -20,12 +20,12 @@ returns-clause-first c entries same = ap (option_map call_view) (sym (nothing c)
 pub returns-in-Some : goal.returns-in-Some
 returns-in-Some c =
     let functions = c.args.functions.now in
-    let found : find (lacks_body functions) c.function-item.result.calls.items ≡ Some c.in-Some.call.now = ap (find (lacks_body functions)) (sym c.as_slice.ensures.value) ∙ sym c.in-Some.ensures in
+    let found : find (lacks_body functions) c.function-item.result.calls.now ≡ Some c.in-Some.call.now = sym c.in-Some.ensures in
     let whole = found_in_this (lacks_body functions) functions c.functions.function-index c.function-item.result c.in-Some.call.now c.functions-test.true c.function-item.is found c.functions.invariant in
     record { first = λ entries same. ap (option_map call_view) (sym whole) ∙ missing_call_is functions entries same; known = tt }
 
 pub functions-preserved : goal.functions-preserved
 functions-preserved c =
     let functions = c.args.functions.now in
-    let none : find (lacks_body functions) c.function-item.result.calls.items ≡ None = ap (find (lacks_body functions)) (sym c.as_slice.ensures.value) ∙ sym c.in-None.ensures in
+    let none : find (lacks_body functions) c.function-item.result.calls.now ≡ None = sym c.in-None.ensures in
     none_in_this (lacks_body functions) functions c.functions.function-index c.function-item.result c.functions-test.true c.function-item.is none c.functions.invariant
