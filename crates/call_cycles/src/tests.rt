@@ -74,14 +74,16 @@ fn notes_of(alloc: Global, functions: &[Function]) -> Result<Vec<FunctionNotes<'
 }
 
 fn address_sought(alloc: Global, functions: &[Function]) -> Result<Option<Place>, Memory> {
-    let notes = notes_of(alloc, functions)?;
+    let list = notes_of(alloc, functions)?;
+    let notes = list.as_slice();
     if notes.len() > 100 {
         return Err(Memory);
     }
-    match missing_body(notes.as_slice()) {
-        Some(_) => Err(Memory),
-        None => address_on_cycle(alloc, notes.as_slice()),
+    match missing_body(notes) {
+        Some(_) => return Err(Memory),
+        None => {}
     }
+    address_on_cycle(alloc, notes)
 }
 
 #[test]
