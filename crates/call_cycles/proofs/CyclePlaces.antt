@@ -12,9 +12,10 @@ use Rattle.call_graph.specs.Graphs.{At}
 use Rattle.file_typing.specs.CallCycles.{IsOnCycle, IsAddressOnCycle, IsFirstAddressOnCycle, HasNoAddressOnCycle}
 use Rattle.file_typing.specs.FileScope.{FunctionEntry, Body}
 use Rattle.call_cycles.specs.declared.notes.FunctionNotes.{FunctionNotes}
-use Rattle.call_cycles.specs.declared.notes.Taken.{Taken}
+use Rattle.typing_base.specs.declared.addresses.Taken.{Taken}
 use Rattle.call_cycles.specs.FirstPlaces.{IsFirstOf, place_for, local_place}
-use Rattle.call_cycles.specs.Noted.{Noted, noted, notes_view, taken_view, taken_in, AreNotesOf, calls_between}
+use Rattle.typing_base.specs.NoteViews.{taken_view}
+use Rattle.call_cycles.specs.Noted.{Noted, noted, notes_view, taken_in, AreNotesOf, calls_between}
 use Rattle.call_cycles.proofs.Elements.{at_map, map_at, at_flat_map, flat_map_at}
 use Rattle.call_cycles.proofs.EntriesAndNotes.{same_graph}
 

@@ -7,9 +7,10 @@ use Rattle.std.proofs.lemmas.Option.{slice_get-map}
 use Rattle.expression_typing.specs.Progress.{Call as CallRecord}
 use Rattle.file_typing.specs.CallCycles.{has_body, calls_in, first_without_body, call_graph}
 use Rattle.file_typing.specs.FileScope.{FunctionEntry}
-use Rattle.call_cycles.specs.declared.notes.Call.{Call}
+use Rattle.typing_base.specs.declared.notes.Call.{Call}
 use Rattle.call_cycles.specs.declared.notes.FunctionNotes.{FunctionNotes}
-use Rattle.call_cycles.specs.Noted.{Noted, noted, notes_view, call_view, AreNotesOf, calls_between, is_defined, defined_there}
+use Rattle.typing_base.specs.NoteViews.{call_view}
+use Rattle.call_cycles.specs.Noted.{Noted, noted, notes_view, AreNotesOf, calls_between, is_defined, defined_there}
 use Rattle.call_cycles.proofs.Elements.{map-map}
 use Rattle.call_cycles.proofs.MissingCalls.{lacks_body, all_calls}
 

@@ -3,7 +3,7 @@ use Rattle.std.proofs.Common.{◌≡◌, ℕ, zero, suc, ◌+◌, ◌<◌, List,
 use Rattle.std.specs.List.{find}
 use Rattle.std.proofs.lemmas.List.{length-map, at_drop_more}
 use Rattle.call_graph.specs.Graphs.{At, IsGraph}
-use Rattle.call_cycles.specs.declared.notes.Call.{Call}
+use Rattle.typing_base.specs.declared.notes.Call.{Call}
 use Rattle.call_cycles.specs.declared.notes.FunctionNotes.{FunctionNotes}
 use Rattle.call_cycles.specs.Noted.{is_defined, calls_between}
 use Rattle.call_cycles.proofs.Elements.{at_map, flat_map_at}

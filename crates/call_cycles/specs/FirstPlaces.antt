@@ -5,7 +5,7 @@ use Rattle.rvt_tree.specs.declared.expressions.Variable.{Variable}
 use Rattle.rvt_tree.specs.declared.expressions.Variable.TheVariants as V
 use Rattle.call_graph.specs.Graphs.{At}
 use Rattle.file_typing.specs.CallCycles.{IsNotBehind}
-use Rattle.call_cycles.specs.declared.notes.Taken.{Taken}
+use Rattle.typing_base.specs.declared.addresses.Taken.{Taken}
 
 -- one of the places, not behind any of them; or there are none
 abbrev pub IsFirstOf : List Place → Option Place → Type 0

@@ -3,15 +3,8 @@ use Rattle.std.specs.Prelude.{◌≡◌, ℕ, List, [], map, Bool, false, Option
 use Rattle.expression_typing.specs.Progress.{Call as CallRecord, Taken as TakenRecord}
 use Rattle.file_typing.specs.CallCycles.{calls_in}
 use Rattle.file_typing.specs.FileScope.{FunctionEntry, Body}
-use Rattle.call_cycles.specs.declared.notes.Call.{Call}
-use Rattle.call_cycles.specs.declared.notes.Taken.{Taken}
+use Rattle.typing_base.specs.NoteViews.{call_view, taken_view}
 use Rattle.call_cycles.specs.declared.notes.FunctionNotes.{FunctionNotes}
-
-abbrev pub call_view : Call → CallRecord
-call_view call = record { function = call.function; name = call.name; place = call.place }
-
-abbrev pub taken_view : Taken → TakenRecord
-taken_view taken = record { variable = taken.variable; place = taken.place }
 
 -- of a function: whether it has a body, and the calls in that and the addresses that it takes
 pub record Noted : Type 0 where

@@ -7,11 +7,12 @@ ghost use Rattle.call_cycles.specs.Noted.{AreNotesOf, calls_between};
 ghost use Rattle.call_cycles.specs.FirstPlaces.{IsFirstOf, local_place};
 
 use crate::cycles::on_cycle;
-use crate::notes::{FunctionNotes, Taken};
+use crate::notes::FunctionNotes;
 use crate::orders::earlier;
 use graph_marks::Memory;
 use rvt_tree::{Place, Variable};
 use std::alloc::Global;
+use typing_base::Taken;
 
 /// The first place in the source at which the address of a local is taken in a function on a call cycle.
 pub fn address_on_cycle(alloc: Global, functions: &[FunctionNotes]) -> Result<Option<Place>, Memory>

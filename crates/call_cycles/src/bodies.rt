@@ -3,9 +3,11 @@ ghost use Rattle.std.specs.Option.{option_copied};
 ghost use Rattle.call_graph.specs.Graphs.{IsGraph};
 ghost use Rattle.file_typing.specs.CallCycles.{first_without_body};
 ghost use Rattle.file_typing.specs.FileScope.{FunctionEntry};
-ghost use Rattle.call_cycles.specs.Noted.{call_view, AreNotesOf, calls_between, is_defined};
+ghost use Rattle.call_cycles.specs.Noted.{AreNotesOf, calls_between, is_defined};
+ghost use Rattle.typing_base.specs.NoteViews.{call_view};
 
-use crate::notes::{Call, FunctionNotes};
+use crate::notes::FunctionNotes;
+use typing_base::Call;
 
 /// The first call, in the order of the source, of a function that has no body at the end of the file.
 pub fn missing_body<'a>(functions: &[FunctionNotes<'a>]) -> Option<&'a Call>

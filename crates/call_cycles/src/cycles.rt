@@ -3,9 +3,10 @@ ghost use Rattle.call_graph.specs.Graphs.{At, IsGraph, rows};
 ghost use Rattle.file_typing.specs.CallCycles.{IsOnCycle};
 ghost use Rattle.call_cycles.specs.Noted.{calls_between};
 
-use crate::notes::{Call, FunctionNotes};
+use crate::notes::FunctionNotes;
 use graph_marks::{Graph, Memory, on_cycles};
 use std::alloc::Global;
+use typing_base::Call;
 
 /// For each function, whether it is on a call cycle: it calls itself, or calls lead from it back to it.
 pub fn on_cycle(alloc: Global, functions: &[FunctionNotes]) -> Result<Vec<bool>, Memory>

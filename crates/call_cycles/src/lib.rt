@@ -14,4 +14,4 @@ pub use addresses::address_on_cycle;
 pub use bodies::missing_body;
 pub use call_graph::Memory;
 pub use cycles::on_cycle;
-pub use notes::{Call, FunctionNotes, Taken};
+pub use notes::FunctionNotes;

@@ -1,7 +1,8 @@
-use crate::{Call, FunctionNotes, Memory, Taken, address_on_cycle, missing_body};
+use crate::{FunctionNotes, Memory, address_on_cycle, missing_body};
 use rvt_tree::{Name, Place, Variable};
 use std::alloc::Global;
 use std::test::Fail;
+use typing_base::{Call, Taken};
 
 fn at(line: u32, column: u32) -> Place {
     Place { line, column }

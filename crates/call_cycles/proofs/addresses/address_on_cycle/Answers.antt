@@ -1,7 +1,7 @@
 use Rattle.std.proofs.Common.{◌≡◌, List, ◌++◌, flat_map, true, false, get_or, take, sym, ap, ◌∙◌, subst, append-nil}
 use Rattle.rvt_tree.specs.declared.places.Place.{Place}
 use Rattle.call_cycles.specs.declared.notes.FunctionNotes.{FunctionNotes}
-use Rattle.call_cycles.specs.declared.notes.Taken.{Taken}
+use Rattle.typing_base.specs.declared.addresses.Taken.{Taken}
 use Rattle.call_cycles.specs.FirstPlaces.{IsFirstOf, local_place}
 use Rattle.call_cycles.proofs.CyclePlaces.{cycle_places, exists_in, next_places, all_places, first_address}
 use Rattle.call_cycles.proofs.addresses.address_on_cycle.Goals as goal

@@ -1,7 +1,7 @@
 use Rattle.std.proofs.Common.{List, ◌++◌, flat_map, subst}
 use Rattle.std.proofs.lemmas.List.{take_all}
 use Rattle.rvt_tree.specs.declared.places.Place.{Place}
-use Rattle.call_cycles.specs.declared.notes.Taken.{Taken}
+use Rattle.typing_base.specs.declared.addresses.Taken.{Taken}
 use Rattle.call_cycles.specs.FirstPlaces.{IsFirstOf, local_place}
 use Rattle.call_cycles.proofs.Elements.{flat_map_next}
 use Rattle.call_cycles.proofs.addresses.with_addresses.Goals as goal

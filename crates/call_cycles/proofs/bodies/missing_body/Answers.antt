@@ -1,7 +1,7 @@
 use Rattle.std.proofs.Common.{◌≡◌, ◌∙◌, Some, None, option_map, sym, ap}
 use Rattle.std.specs.List.{find}
 use Rattle.std.proofs.lemmas.List.{drop_all}
-use Rattle.call_cycles.specs.Noted.{call_view}
+use Rattle.typing_base.specs.NoteViews.{call_view}
 use Rattle.call_cycles.proofs.EntriesAndNotes.{missing_call_is}
 use Rattle.call_cycles.proofs.MissingCalls.{lacks_body, all_calls, none_in_this, found_in_this, calls_known}
 use Rattle.call_cycles.proofs.bodies.missing_body.Goals as goal
