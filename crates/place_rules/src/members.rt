@@ -1,8 +1,7 @@
 //! `s.f` and `p->f` (C 6.5.2.3).
 
-ghost use Rattle.std.specs.Prelude.{◌≡◌, map, option_map};
+ghost use Rattle.std.specs.Prelude.{◌≡◌, map, option_map, slice_get};
 ghost use Rattle.expression_typing.specs.Entities.{field_in, fields_of};
-ghost use Rattle.std.specs.Prelude.{slice_get};
 ghost use Rattle.expression_typing.specs.StructMembers.{field_named, member_of, arrow_of};
 ghost use Rattle.typing_base.specs.Views.{field_view, operand_view, structures_view};
 ghost use Rattle.typing_base.specs.Follows.{Gives, GivesOperand};
