@@ -1,0 +1,2 @@
+pub mod NeitherPointers
+pub mod Steps

@@ -1,0 +1,120 @@
+//! `==`, `!=` (C 6.5.9).
+
+ghost use Rattle.std.specs.Prelude.{◌≡◌, IfOk};
+ghost use Rattle.rvt_num.specs.declared.kinds.Kind.TheVariants.{I32};
+ghost use Rattle.rvt_tree.specs.Views.{expr_view};
+ghost use Rattle.expression_typing.specs.Operands.{an_integer, a_null, an_int_value};
+ghost use Rattle.expression_typing.specs.EqualityOperators.{equality_of};
+ghost use Rattle.typing_base.specs.Views.{operand_view};
+ghost use Rattle.typing_base.specs.Follows.{GivesOperand};
+ghost use Rattle.operator_rules.specs.Forms.{of_integers, of_pointers};
+
+use crate::conversions::pointer_converted;
+use crate::integer_operators::on_common;
+use rvt_num::{BinOp, Kind};
+use rvt_tree::{Expr, Place};
+use std::alloc::{AllocError, Global};
+use typing_base::{Cause, Fault, Operand, broken};
+
+#[derive(Clone, Copy)]
+pub enum Equality {
+    /// `==`
+    Equal,
+    /// `!=`
+    Unequal,
+}
+
+fn of_integers(equality: Equality) -> BinOp
+    ensures { result ≡ of_integers equality }
+{
+    match equality {
+        Equality::Equal => BinOp::Eq,
+        Equality::Unequal => BinOp::Ne,
+    }
+}
+
+fn of_pointers(alloc: Global, equality: Equality, p: Expr, q: Expr) -> Result<Expr, AllocError>
+    ensures { IfOk result (λ e. expr_view e ≡ of_pointers equality (expr_view p) (expr_view q)) }
+{
+    let p = Box::new(alloc, p)?;
+    let q = Box::new(alloc, q)?;
+    match equality {
+        Equality::Equal => Ok(Expr::SamePointer(p, q)),
+        Equality::Unequal => Ok(Expr::OtherPointer(p, q)),
+    }
+}
+
+fn compared<'t>(
+    alloc: Global,
+    equality: Equality,
+    p: Expr,
+    q: Expr,
+) -> Result<Operand<'t>, AllocError>
+    ensures { IfOk result (λ o. operand_view o ≡ an_int_value I32 (of_pointers equality (expr_view p) (expr_view q))) }
+{
+    let value = of_pointers(alloc, equality, p, q)?;
+    Ok(Operand::Integer(Kind::I32, value, false))
+}
+
+/// Two integers; or a pointer, and a pointer to the same type or a null pointer constant, `const` or not.
+#[tactic(auto, using(crate::proofs::NeitherPointers::place_not_compared, crate::proofs::NeitherPointers::void_not_compared))]
+pub fn equality_of<'t>(
+    alloc: Global,
+    equality: Equality,
+    at: Place,
+    x: Operand<'t>,
+    y: Operand<'t>,
+) -> Result<Operand<'t>, Fault>
+    ensures { GivesOperand (equality_of (of_integers equality) (of_pointers equality) at (operand_view x.entry) (operand_view y.entry)) result }
+{
+    match x {
+        Operand::Integer(a, x, zero_token) => integer_and(alloc, equality, at, a, x, zero_token, y),
+        Operand::Pointer(pointee, _, p) => {
+            let q = pointer_converted(at, pointee, true, y)?;
+            Ok(compared(alloc, equality, p, q)?)
+        }
+        Operand::Null => null_and(alloc, equality, at, y),
+        Operand::Place(_, _, _) => Err(broken(Cause::WrongType, at)),
+        Operand::Void(_, _) => Err(broken(Cause::WrongType, at)),
+    }
+}
+
+/// With an integer on the left, which may be a null pointer constant.
+fn integer_and<'t>(
+    alloc: Global,
+    equality: Equality,
+    at: Place,
+    a: Kind,
+    x: Expr,
+    zero_token: bool,
+    y: Operand<'t>,
+) -> Result<Operand<'t>, Fault>
+    ensures { GivesOperand (equality_of (of_integers equality) (of_pointers equality) at (an_integer a (expr_view x) zero_token) (operand_view y.entry)) result }
+{
+    match y {
+        Operand::Integer(b, y, _) => Ok(on_common(alloc, of_integers(equality), a, x, b, y)?),
+        Operand::Pointer(_, _, q) => {
+            if zero_token {
+                Ok(compared(alloc, equality, Expr::Null, q)?)
+            } else {
+                Err(broken(Cause::WrongType, at))
+            }
+        }
+        _ => Err(broken(Cause::WrongType, at)),
+    }
+}
+
+/// With `NULL` on the left.
+fn null_and<'t>(
+    alloc: Global,
+    equality: Equality,
+    at: Place,
+    y: Operand<'t>,
+) -> Result<Operand<'t>, Fault>
+    ensures { GivesOperand (equality_of (of_integers equality) (of_pointers equality) at a_null (operand_view y.entry)) result }
+{
+    match y {
+        Operand::Pointer(_, _, q) => Ok(compared(alloc, equality, Expr::Null, q)?),
+        _ => Err(broken(Cause::WrongType, at)),
+    }
+}
