@@ -1,3 +1,3 @@
-pub mod TakenViews
+pub mod NoteViews
 pub mod Views
 pub mod Follows

@@ -1,7 +1,6 @@
 -- What the values of a pass that types a file stand for.
-use Rattle.std.specs.Prelude.{ℕ, List, map, Bool, option_map}
+use Rattle.std.specs.Prelude.{List, map, Bool}
 use Rattle.rvt_tree.specs.Views.{lvalue_view, expr_view, exprs_view}
-use Rattle.rvt_tree.specs.declared.types.CType.{CType}
 use Rattle.c_types.specs.Layout as l
 use Rattle.c_types.specs.Layout.{Shape, shape_of}
 use Rattle.expression_typing.specs.Outcomes as o
@@ -19,9 +18,7 @@ use Rattle.typing_base.specs.declared.entities.Tagged.{Tagged}
 use Rattle.typing_base.specs.declared.entities.Tagged.TheVariants as T
 use Rattle.typing_base.specs.declared.structures.Field.{Field}
 use Rattle.typing_base.specs.declared.structures.Structure.{Structure}
-use Rattle.typing_base.specs.declared.notes.Local.{Local}
-use Rattle.typing_base.specs.declared.notes.Call.{Call}
-use Rattle.typing_base.specs.TakenViews.{taken_view}
+use Rattle.typing_base.specs.NoteViews.{local_view, call_view, taken_view}
 use Rattle.typing_base.specs.declared.notes.Notes.{Notes}
 use Rattle.typing_base.specs.declared.operands.PlaceType.{PlaceType}
 use Rattle.typing_base.specs.declared.operands.PlaceType.TheVariants as Y
@@ -80,16 +77,10 @@ structures_view structs = map structure_view structs
 
 -- ---- notes
 
-abbrev pub local_view : Local → p.Local
-local_view local = record { name = local.name; place = local.place; type = shape_of local.ty; cells = local.cells; constant = local.constant }
-
-abbrev pub call_view : Call → p.Call
-call_view call = record { function = call.function; name = call.name; place = call.place }
-
 abbrev pub notes_view : Notes → p.Notes
 notes_view n =
     record {
-      locals = map local_view n.locals.items;
+      locals = map local_view n.locals;
       calls = map call_view n.calls.items;
       taken = map taken_view n.taken;
       loops = n.loops;

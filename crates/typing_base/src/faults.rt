@@ -1,10 +1,11 @@
 //! Why a file has no typed program.
 
-ghost use Rattle.std.specs.Prelude.{◌≡◌};
+ghost use Rattle.std.specs.Prelude.{◌≡◌, IfOk};
+ghost use Rattle.typing_base.specs.declared.faults.Cause.TheVariants as C;
 ghost use Rattle.typing_base.specs.declared.faults.Fault.TheVariants.{Broken};
 
 use rvt_tree::{Name, Place};
-use std::alloc::{AllocError, AllocFailed};
+use std::alloc::{AllocError, AllocFailed, Global};
 
 /// Which rule is broken.
 #[derive(Debug, Drop)]
@@ -64,4 +65,23 @@ pub fn broken(cause: Cause, place: Place) -> Fault
     ensures { result ≡ Broken (record { cause = cause; place = place }) }
 {
     Fault::Broken(Break { cause, place })
+}
+
+pub fn wrong_type(place: Place) -> Fault
+    ensures { result ≡ Broken (record { cause = C.WrongType; place = place }) }
+{
+    broken(Cause::WrongType, place)
+}
+
+pub fn not_in_profile(place: Place) -> Fault
+    ensures { result ≡ Broken (record { cause = C.NotInProfile; place = place }) }
+{
+    broken(Cause::NotInProfile, place)
+}
+
+/// The name once more.
+pub fn copied_name(alloc: Global, name: &Name) -> Result<Name, AllocError>
+    ensures { IfOk result (λ copy. copy ≡ name.now) }
+{
+    Name::new(alloc, name.bytes())
 }

@@ -24,6 +24,7 @@ pub struct Scope<'t> {
 }
 
 impl<'t> Scope<'t> {
+    #[tactic(auto, using(crate::proofs::Found::entity_found))]
     /// What a name stands for, the innermost declaration first (C 6.2.1).
     pub fn entity(self, name: &[u8]) -> Option<&'t Entity>
         ensures { option_map (λ entity. entity_view entity.now) result ≡ in_scope (scope_view self.entry).names name.now }
@@ -31,6 +32,7 @@ impl<'t> Scope<'t> {
         self.environment.names.look_up(name)
     }
 
+    #[tactic(auto, using(crate::proofs::Found::tag_found))]
     pub fn tagged(self, name: &[u8]) -> Option<Tagged>
         ensures { option_map tagged_view result ≡ tag_in (scope_view self.entry).tags name.now }
     {
