@@ -1,2 +1,3 @@
+pub mod CastChains
 pub mod Forms
 pub mod Views

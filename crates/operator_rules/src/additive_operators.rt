@@ -7,11 +7,10 @@ ghost use Rattle.typing_base.specs.Views.{operand_view, structures_view};
 ghost use Rattle.typing_base.specs.Follows.{GivesOperand};
 
 use crate::integer_operators::on_common;
-use crate::pointees::pointee_cells;
 use rvt_num::{BinOp, Kind};
 use rvt_tree::{Expr, Place, Pointee};
 use std::alloc::Global;
-use typing_base::{Cause, Fault, Operand, Structure, broken};
+use typing_base::{Fault, Operand, Structure, not_in_profile, pointee_cells, wrong_type};
 
 /// Two integers, or a pointer to a complete type and an integer.
 pub fn sum_of<'t>(
@@ -28,7 +27,7 @@ pub fn sum_of<'t>(
         Operand::Pointer(pointee, to_constant, p) => {
             pointer_plus(alloc, structs, at, pointee, to_constant, p, y)
         }
-        _ => Err(broken(Cause::WrongType, at)),
+        _ => Err(wrong_type(at)),
     }
 }
 
@@ -50,7 +49,7 @@ fn integer_plus<'t>(
             let sum = Expr::ForwardFrom(Box::new(alloc, x)?, Box::new(alloc, p)?, size);
             Ok(Operand::Pointer(pointee, to_constant, sum))
         }
-        _ => Err(broken(Cause::WrongType, at)),
+        _ => Err(wrong_type(at)),
     }
 }
 
@@ -71,7 +70,7 @@ fn pointer_plus<'t>(
             let sum = Expr::Forward(Box::new(alloc, p)?, Box::new(alloc, k)?, size);
             Ok(Operand::Pointer(pointee, to_constant, sum))
         }
-        _ => Err(broken(Cause::WrongType, at)),
+        _ => Err(wrong_type(at)),
     }
 }
 
@@ -88,16 +87,16 @@ pub fn difference_of<'t>(
     match x {
         Operand::Integer(a, x, _) => match y {
             Operand::Integer(b, y, _) => Ok(on_common(alloc, BinOp::Sub, a, x, b, y)?),
-            _ => Err(broken(Cause::WrongType, at)),
+            _ => Err(wrong_type(at)),
         },
         Operand::Pointer(pointee, to_constant, p) => {
             pointer_minus(alloc, structs, at, pointee, to_constant, p, y)
         }
         Operand::Null => match y {
-            Operand::Pointer(_, _, _) | Operand::Null => Err(broken(Cause::NotInProfile, at)),
-            _ => Err(broken(Cause::WrongType, at)),
+            Operand::Pointer(_, _, _) | Operand::Null => Err(not_in_profile(at)),
+            _ => Err(wrong_type(at)),
         },
-        _ => Err(broken(Cause::WrongType, at)),
+        _ => Err(wrong_type(at)),
     }
 }
 
@@ -118,7 +117,7 @@ fn pointer_minus<'t>(
             let rest = Expr::Backward(Box::new(alloc, p)?, Box::new(alloc, k)?, size);
             Ok(Operand::Pointer(pointee, to_constant, rest))
         }
-        Operand::Pointer(_, _, _) | Operand::Null => Err(broken(Cause::NotInProfile, at)),
-        _ => Err(broken(Cause::WrongType, at)),
+        Operand::Pointer(_, _, _) | Operand::Null => Err(not_in_profile(at)),
+        _ => Err(wrong_type(at)),
     }
 }

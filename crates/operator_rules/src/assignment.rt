@@ -1,7 +1,6 @@
 //! Assignment, compound assignment, `++` and `--` (C 6.5.16, 6.5.2.4, 6.5.3.1), which are acts: they give no value.
 
 ghost use Rattle.std.specs.Prelude.{◌≡◌, IfOk};
-ghost use Rattle.rvt_num.specs.Operations.{is_shift};
 ghost use Rattle.rvt_tree.specs.Views.{expr_view, lvalue_view, act_view};
 ghost use Rattle.c_types.specs.Layout.{APointer};
 ghost use Rattle.expression_typing.specs.Operands.{an_integer};
@@ -11,11 +10,11 @@ ghost use Rattle.typing_base.specs.Follows.{Gives};
 ghost use Rattle.operator_rules.specs.Views.{target_view, sides_view};
 
 use crate::conversions::{converted_to, integer_converted, promoted};
-use crate::pointees::pointee_cells;
+use crate::integer_operators::is_shift;
 use rvt_num::{BinOp, Kind};
 use rvt_tree::{Act, Bump, Expr, Lvalue, Place, Pointee};
 use std::alloc::{AllocError, Global};
-use typing_base::{Cause, Fault, Operand, PlaceType, Structure, broken};
+use typing_base::{Cause, Fault, Operand, PlaceType, Structure, broken, not_in_profile, pointee_cells, wrong_type};
 
 /// What is written, and its type.
 #[derive(Drop)]
@@ -38,10 +37,10 @@ pub fn target<'t>(operator: Place, operand: Operand<'t>) -> Result<AssignmentTar
 {
     match operand {
         Operand::Place(ty, _, lvalue) => match ty {
-            PlaceType::Array(_, _) => Err(broken(Cause::WrongType, operator)),
+            PlaceType::Array(_, _) => Err(wrong_type(operator)),
             _ => Ok(AssignmentTarget { ty, lvalue }),
         },
-        _ => Err(broken(Cause::WrongType, operator)),
+        _ => Err(wrong_type(operator)),
     }
 }
 
@@ -65,7 +64,7 @@ fn no_struct_copied<'t>(
 {
     match ty {
         PlaceType::Struct(_) => match operand {
-            Operand::Place(_, _, _) => Err(broken(Cause::NotInProfile, at)),
+            Operand::Place(_, _, _) => Err(not_in_profile(at)),
             _ => Ok(()),
         },
         _ => Ok(()),
@@ -87,15 +86,6 @@ pub fn assigned<'t>(
     may_write?;
     let value = converted_to(alloc, at.right, to.ty, right)?;
     Ok(Act::Assign(to.lvalue, value))
-}
-
-fn is_shift(op: BinOp) -> bool
-    ensures { result ≡ is_shift op }
-{
-    match op {
-        BinOp::Shl | BinOp::Shr => true,
-        _ => false,
-    }
 }
 
 /// Of an integer, the operation in the kind that it has as one of two operands.
@@ -136,12 +126,12 @@ fn compound_of<'t>(
             Operand::Integer(kind, value, _) => {
                 Ok(integer_compound(alloc, op, own, lvalue, kind, value)?)
             }
-            _ => Err(broken(Cause::WrongType, at)),
+            _ => Err(wrong_type(at)),
         },
         PlaceType::Pointer(pointee, to_constant) => {
             pointer_compound(structs, op, at, pointee, to_constant, lvalue, operand)
         }
-        _ => Err(broken(Cause::WrongType, at)),
+        _ => Err(wrong_type(at)),
     }
 }
 
@@ -162,16 +152,16 @@ fn pointer_compound<'t>(
                 let size = pointee_cells(structs, at, pointee)?;
                 Ok(Act::Advance(lvalue, value, size))
             }
-            _ => Err(broken(Cause::WrongType, at)),
+            _ => Err(wrong_type(at)),
         },
         BinOp::Sub => match operand {
             Operand::Integer(_, value, _) => {
                 let size = pointee_cells(structs, at, pointee)?;
                 Ok(Act::Retreat(lvalue, value, size))
             }
-            _ => Err(broken(Cause::WrongType, at)),
+            _ => Err(wrong_type(at)),
         },
-        _ => Err(broken(Cause::WrongType, at)),
+        _ => Err(wrong_type(at)),
     }
 }
 
@@ -209,7 +199,7 @@ fn step_of<'t>(
             let size = pointee_cells(structs, at, pointee)?;
             Ok(Act::BumpPointer(bump, lvalue, size))
         }
-        _ => Err(broken(Cause::WrongType, at)),
+        _ => Err(wrong_type(at)),
     }
 }
 

@@ -12,7 +12,7 @@ ghost use Rattle.operator_rules.specs.Views.{written_view};
 use rvt_num::Kind;
 use rvt_tree::{CType, Expr, Place};
 use std::alloc::Global;
-use typing_base::{Cause, Fault, NamedType, Operand, QualifiedType, broken};
+use typing_base::{Fault, NamedType, Operand, QualifiedType, not_in_profile, wrong_type};
 
 /// A type as it is written.
 #[derive(Debug, Drop)]
@@ -59,9 +59,9 @@ fn cast_as<'t>(
     match named {
         NamedType::Type(ty) => match ty {
             CType::Word(to) => cast_as_integer(alloc, at, *to, lengths, operand),
-            _ => Err(broken(Cause::WrongType, at)),
+            _ => Err(wrong_type(at)),
         },
-        _ => Err(broken(Cause::WrongType, at)),
+        _ => Err(wrong_type(at)),
     }
 }
 
@@ -80,9 +80,9 @@ fn cast_as_integer<'t>(
                 let value = Expr::Cast(to, Box::new(alloc, value)?);
                 Ok(Operand::Integer(to, value, false))
             }
-            _ => Err(broken(Cause::WrongType, at)),
+            _ => Err(wrong_type(at)),
         },
-        _ => Err(broken(Cause::WrongType, at)),
+        _ => Err(wrong_type(at)),
     }
 }
 
@@ -97,10 +97,10 @@ pub fn cast_to<'t>(
 {
     let lengths = written.lengths.as_slice();
     if names_a_pointer(&written.ty.named, lengths) {
-        return Err(broken(Cause::NotInProfile, written.place));
+        return Err(not_in_profile(written.place));
     }
     if is_pointer(&operand) {
-        return Err(broken(Cause::NotInProfile, written.place));
+        return Err(not_in_profile(written.place));
     }
     cast_as(alloc, at, &written.ty.named, lengths, operand)
 }

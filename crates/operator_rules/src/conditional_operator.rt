@@ -1,7 +1,7 @@
 //! `a ? b : c` (C 6.5.15).
 
 ghost use Rattle.std.specs.Prelude.{◌≡◌, IfOk};
-ghost use Rattle.rvt_tree.specs.Syntax.{conditional};
+ghost use Rattle.rvt_tree.specs.Syntax.{conditional, null_pointer};
 ghost use Rattle.rvt_tree.specs.Views.{expr_view};
 ghost use Rattle.expression_typing.specs.Operands.{an_integer, a_pointer, a_null};
 ghost use Rattle.expression_typing.specs.ConditionalOperator.{chosen, choice_of};
@@ -13,7 +13,7 @@ use crate::kinds::is_same_pointee;
 use rvt_num::Kind;
 use rvt_tree::{Expr, Place, Pointee};
 use std::alloc::{AllocError, Global};
-use typing_base::{Cause, Fault, Operand, broken};
+use typing_base::{Fault, Operand, wrong_type};
 
 /// The second and the third operand are both integers, or both pointers.
 pub fn choice_of<'t>(
@@ -46,8 +46,8 @@ fn chosen<'t>(
             pointer_or(alloc, at, test, pointee, to_constant, p, y)
         }
         Operand::Null => null_or(alloc, at, test, y),
-        Operand::Place(_, _, _) => Err(broken(Cause::WrongType, at)),
-        Operand::Void(_, _) => Err(broken(Cause::WrongType, at)),
+        Operand::Place(_, _, _) => Err(wrong_type(at)),
+        Operand::Void(_, _) => Err(wrong_type(at)),
     }
 }
 
@@ -83,10 +83,10 @@ fn integer_or<'t>(
                 let value = conditional(alloc, test, Expr::Null, q)?;
                 Ok(Operand::Pointer(pointee, to_constant, value))
             } else {
-                Err(broken(Cause::WrongType, at))
+                Err(wrong_type(at))
             }
         }
-        _ => Err(broken(Cause::WrongType, at)),
+        _ => Err(wrong_type(at)),
     }
 }
 
@@ -103,7 +103,7 @@ fn null_or<'t>(
             let value = conditional(alloc, test, Expr::Null, q)?;
             Ok(Operand::Pointer(pointee, to_constant, value))
         }
-        _ => Err(broken(Cause::WrongType, at)),
+        _ => Err(wrong_type(at)),
     }
 }
 
@@ -121,15 +121,33 @@ fn pointer_or<'t>(
     match y {
         Operand::Pointer(other, other_constant, q) => {
             if !is_same_pointee(pointee, other) {
-                return Err(broken(Cause::WrongType, at));
+                return Err(wrong_type(at));
             }
             let value = conditional(alloc, test, p, q)?;
             Ok(Operand::Pointer(pointee, to_constant || other_constant, value))
         }
-        Operand::Null | Operand::Integer(_, _, true) => {
-            let value = conditional(alloc, test, p, Expr::Null)?;
-            Ok(Operand::Pointer(pointee, to_constant, value))
+        Operand::Null => Ok(pointer_or_null(alloc, test, pointee, to_constant, p)?),
+        Operand::Integer(_, _, zero_token) => {
+            if zero_token {
+                Ok(pointer_or_null(alloc, test, pointee, to_constant, p)?)
+            } else {
+                Err(wrong_type(at))
+            }
         }
-        _ => Err(broken(Cause::WrongType, at)),
+        Operand::Place(_, _, _) => Err(wrong_type(at)),
+        Operand::Void(_, _) => Err(wrong_type(at)),
     }
+}
+
+fn pointer_or_null<'t>(
+    alloc: Global,
+    test: Expr,
+    pointee: Pointee,
+    to_constant: bool,
+    p: Expr,
+) -> Result<Operand<'t>, AllocError>
+    ensures { IfOk result (λ o. operand_view o ≡ a_pointer pointee to_constant (conditional (expr_view test) (expr_view p) null_pointer)) }
+{
+    let value = conditional(alloc, test, p, Expr::Null)?;
+    Ok(Operand::Pointer(pointee, to_constant, value))
 }

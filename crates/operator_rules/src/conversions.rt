@@ -11,7 +11,7 @@ use crate::kinds::{is_same_kind, is_same_pointee};
 use rvt_num::Kind;
 use rvt_tree::{Expr, Place, Pointee};
 use std::alloc::{AllocError, Global};
-use typing_base::{Cause, Fault, Operand, PlaceType, broken};
+use typing_base::{Fault, Operand, PlaceType, not_in_profile, wrong_type};
 
 /// An integer of the first kind as one of the second (C 6.3.1.3).
 pub fn integer_converted(
@@ -50,12 +50,12 @@ pub fn pointer_converted<'t>(
             if is_same_pointee(pointee, own) && (to_constant || !own_constant) {
                 Ok(value)
             } else {
-                Err(broken(Cause::WrongType, at))
+                Err(wrong_type(at))
             }
         }
         Operand::Null => Ok(Expr::Null),
         Operand::Integer(_, _, true) => Ok(Expr::Null),
-        _ => Err(broken(Cause::WrongType, at)),
+        _ => Err(wrong_type(at)),
     }
 }
 
@@ -73,7 +73,7 @@ pub fn converted_to<'t>(
         PlaceType::Pointer(pointee, to_constant) => {
             pointer_converted(at, pointee, to_constant, operand)
         }
-        PlaceType::Array(_, _) => Err(broken(Cause::WrongType, at)),
+        PlaceType::Array(_, _) => Err(wrong_type(at)),
         PlaceType::Struct(number) => to_struct(at, number, operand),
     }
 }
@@ -83,7 +83,7 @@ fn to_integer<'t>(alloc: Global, at: Place, to: Kind, operand: Operand<'t>) -> R
 {
     match operand {
         Operand::Integer(kind, value, _) => Ok(integer_converted(alloc, kind, to, value)?),
-        _ => Err(broken(Cause::WrongType, at)),
+        _ => Err(wrong_type(at)),
     }
 }
 
@@ -92,8 +92,8 @@ fn to_struct<'t>(at: Place, number: u32, operand: Operand<'t>) -> Result<Expr, F
     ensures { Gives expr_view (converted_to at (AStruct number) (operand_view operand.entry)) result }
 {
     match operand {
-        Operand::Place(_, _, _) => Err(broken(Cause::NotInProfile, at)),
-        _ => Err(broken(Cause::WrongType, at)),
+        Operand::Place(_, _, _) => Err(not_in_profile(at)),
+        _ => Err(wrong_type(at)),
     }
 }
 
@@ -105,6 +105,6 @@ pub fn tested<'t>(at: Place, operand: Operand<'t>) -> Result<Expr, Fault>
         Operand::Integer(_, value, _) => Ok(value),
         Operand::Pointer(_, _, value) => Ok(value),
         Operand::Null => Ok(Expr::Null),
-        _ => Err(broken(Cause::WrongType, at)),
+        _ => Err(wrong_type(at)),
     }
 }

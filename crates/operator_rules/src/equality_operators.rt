@@ -14,7 +14,7 @@ use crate::integer_operators::on_common;
 use rvt_num::{BinOp, Kind};
 use rvt_tree::{Expr, Place};
 use std::alloc::{AllocError, Global};
-use typing_base::{Cause, Fault, Operand, broken};
+use typing_base::{Fault, Operand, wrong_type};
 
 #[derive(Clone, Copy)]
 pub enum Equality {
@@ -74,8 +74,8 @@ pub fn equality_of<'t>(
             Ok(compared(alloc, equality, p, q)?)
         }
         Operand::Null => null_and(alloc, equality, at, y),
-        Operand::Place(_, _, _) => Err(broken(Cause::WrongType, at)),
-        Operand::Void(_, _) => Err(broken(Cause::WrongType, at)),
+        Operand::Place(_, _, _) => Err(wrong_type(at)),
+        Operand::Void(_, _) => Err(wrong_type(at)),
     }
 }
 
@@ -97,10 +97,10 @@ fn integer_and<'t>(
             if zero_token {
                 Ok(compared(alloc, equality, Expr::Null, q)?)
             } else {
-                Err(broken(Cause::WrongType, at))
+                Err(wrong_type(at))
             }
         }
-        _ => Err(broken(Cause::WrongType, at)),
+        _ => Err(wrong_type(at)),
     }
 }
 
@@ -115,6 +115,6 @@ fn null_and<'t>(
 {
     match y {
         Operand::Pointer(_, _, q) => Ok(compared(alloc, equality, Expr::Null, q)?),
-        _ => Err(broken(Cause::WrongType, at)),
+        _ => Err(wrong_type(at)),
     }
 }

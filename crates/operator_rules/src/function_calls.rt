@@ -10,10 +10,10 @@ ghost use Rattle.typing_base.specs.Follows.{Gives};
 use crate::conversions::converted_to;
 use rvt_tree::{CType, Expr, Place};
 use std::alloc::Global;
-use typing_base::{Cause, Fault, Operand, PlaceType, broken};
+use typing_base::{Fault, Operand, PlaceType, wrong_type};
 
 /// A type whose element type, if it is an array, is lent.
-fn lent<'t>(ty: &'t CType) -> PlaceType<'t>
+fn place_type<'t>(ty: &'t CType) -> PlaceType<'t>
     ensures { type_view result ≡ shape_of ty.now }
 {
     match ty {
@@ -35,7 +35,7 @@ pub fn passed_as<'t>(
 {
     match types {
         [] => additional(alloc, at, operand),
-        [ty, ..] => converted_to(alloc, at, lent(ty), operand),
+        [ty, ..] => converted_to(alloc, at, place_type(ty), operand),
     }
 }
 
@@ -47,6 +47,6 @@ fn additional<'t>(alloc: Global, at: Place, operand: Operand<'t>) -> Result<Expr
         Operand::Integer(_, value, _) => Ok(value),
         Operand::Pointer(_, _, value) => Ok(value),
         Operand::Null => Ok(Expr::Null),
-        Operand::Void(_, _) => Err(broken(Cause::WrongType, at)),
+        Operand::Void(_, _) => Err(wrong_type(at)),
     }
 }

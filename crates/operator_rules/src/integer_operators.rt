@@ -1,7 +1,7 @@
 //! The operators that take two integers (C 6.5.5, 6.5.7, 6.5.10 to 6.5.12).
 
 ghost use Rattle.std.specs.Prelude.{◌≡◌, IfOk};
-ghost use Rattle.rvt_num.specs.Operations.{result_kind};
+ghost use Rattle.rvt_num.specs.Operations.{is_shift, result_kind};
 ghost use Rattle.rvt_tree.specs.Views.{expr_view};
 ghost use Rattle.expression_typing.specs.IntegerOperators.{on_common, integers_of, shift_of};
 ghost use Rattle.typing_base.specs.Views.{operand_view};
@@ -12,7 +12,7 @@ use rvt_num::{BinOp, Kind};
 use rvt_tree::builders::operation;
 use rvt_tree::{Expr, Place};
 use std::alloc::{AllocError, Global};
-use typing_base::{Cause, Fault, Operand, broken};
+use typing_base::{Fault, Operand, wrong_type};
 
 /// The kind of what an operation on two operands of one kind gives.
 fn result_kind(op: BinOp, kind: Kind) -> Kind
@@ -21,6 +21,15 @@ fn result_kind(op: BinOp, kind: Kind) -> Kind
     match op {
         BinOp::Eq | BinOp::Ne | BinOp::Lt | BinOp::Le | BinOp::Gt | BinOp::Ge => Kind::I32,
         _ => kind,
+    }
+}
+
+pub fn is_shift(op: BinOp) -> bool
+    ensures { result ≡ is_shift op }
+{
+    match op {
+        BinOp::Shl | BinOp::Shr => true,
+        _ => false,
     }
 }
 
@@ -55,9 +64,9 @@ pub fn integers_of<'t>(
     match x {
         Operand::Integer(a, x, _) => match y {
             Operand::Integer(b, y, _) => Ok(on_common(alloc, op, a, x, b, y)?),
-            _ => Err(broken(Cause::WrongType, at)),
+            _ => Err(wrong_type(at)),
         },
-        _ => Err(broken(Cause::WrongType, at)),
+        _ => Err(wrong_type(at)),
     }
 }
 
@@ -79,8 +88,8 @@ pub fn shift_of<'t>(
                 let value = operation(alloc, op, x, y)?;
                 Ok(Operand::Integer(rvt_num::promoted(a), value, false))
             }
-            _ => Err(broken(Cause::WrongType, at)),
+            _ => Err(wrong_type(at)),
         },
-        _ => Err(broken(Cause::WrongType, at)),
+        _ => Err(wrong_type(at)),
     }
 }

@@ -8,7 +8,7 @@ use crate::integer_operators::on_common;
 use rvt_num::BinOp;
 use rvt_tree::Place;
 use std::alloc::Global;
-use typing_base::{Cause, Fault, Operand, broken};
+use typing_base::{Fault, Operand, not_in_profile, wrong_type};
 
 /// Two integers; an order of two pointers is not in the profile.
 pub fn order_of<'t>(
@@ -23,12 +23,12 @@ pub fn order_of<'t>(
     match x {
         Operand::Integer(a, x, _) => match y {
             Operand::Integer(b, y, _) => Ok(on_common(alloc, op, a, x, b, y)?),
-            _ => Err(broken(Cause::WrongType, at)),
+            _ => Err(wrong_type(at)),
         },
         Operand::Pointer(_, _, _) | Operand::Null => match y {
-            Operand::Pointer(_, _, _) | Operand::Null => Err(broken(Cause::NotInProfile, at)),
-            _ => Err(broken(Cause::WrongType, at)),
+            Operand::Pointer(_, _, _) | Operand::Null => Err(not_in_profile(at)),
+            _ => Err(wrong_type(at)),
         },
-        _ => Err(broken(Cause::WrongType, at)),
+        _ => Err(wrong_type(at)),
     }
 }

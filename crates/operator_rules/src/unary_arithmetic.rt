@@ -11,7 +11,7 @@ use crate::conversions::{promoted, tested};
 use rvt_num::Kind;
 use rvt_tree::{Expr, Place};
 use std::alloc::{AllocError, Global};
-use typing_base::{Cause, Fault, Operand, broken};
+use typing_base::{Fault, Operand, wrong_type};
 
 /// The operators whose operand is promoted.
 #[derive(Clone, Copy)]
@@ -50,7 +50,7 @@ pub fn on_promoted<'t>(
             let value = signed_form(alloc, form, value)?;
             Ok(Operand::Integer(rvt_num::promoted(kind), value, false))
         }
-        _ => Err(broken(Cause::WrongType, at)),
+        _ => Err(wrong_type(at)),
     }
 }
 

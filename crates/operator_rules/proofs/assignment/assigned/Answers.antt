@@ -1,0 +1,5 @@
+use Rattle.operator_rules.proofs.KeptResults.{kept_breaks}
+use Rattle.operator_rules.proofs.assignment.assigned.Goals as goal
+
+pub returns-in_err-may_write : goal.returns-in_err-may_write
+returns-in_err-may_write c = ?
