@@ -2,5 +2,4 @@ pub mod AssignmentSteps
 pub mod CastsGiven
 pub mod FormsGiven
 pub mod KeptResults
-pub mod NeitherPointers
 pub mod Steps

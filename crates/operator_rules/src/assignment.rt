@@ -14,7 +14,9 @@ use crate::integer_operators::is_shift;
 use rvt_num::{BinOp, Kind};
 use rvt_tree::{Act, Bump, Expr, Lvalue, Place, Pointee};
 use std::alloc::{AllocError, Global};
-use typing_base::{Cause, Fault, Operand, PlaceType, Structure, broken, not_in_profile, pointee_cells, wrong_type};
+use typing_base::{
+    Cause, Fault, Operand, PlaceType, Structure, broken, not_in_profile, pointee_cells, wrong_type,
+};
 
 /// What is written, and its type.
 #[derive(Drop)]
@@ -55,11 +57,7 @@ pub fn modifiable<'t>(first: Place, operand: &Operand<'t>) -> Result<(), Fault>
 }
 
 /// A struct is not assigned to a struct, at the first token of the second.
-fn no_struct_copied<'t>(
-    at: Place,
-    ty: PlaceType<'t>,
-    operand: &Operand<'t>,
-) -> Result<(), Fault>
+fn no_struct_copied<'t>(at: Place, ty: PlaceType<'t>, operand: &Operand<'t>) -> Result<(), Fault>
     ensures { Gives (λ u. u) (no_struct_copied at (type_view ty.entry) (operand_view operand.now)) result }
 {
     match ty {
@@ -83,7 +81,10 @@ pub fn assigned<'t>(
     let may_write = modifiable(at.left, &left);
     let to = target(at.operator, left)?;
     no_struct_copied(at.right, to.ty, &right)?;
-    may_write?;
+    match may_write {
+        Ok(()) => {}
+        Err(fault) => return Err(fault),
+    }
     let value = converted_to(alloc, at.right, to.ty, right)?;
     Ok(Act::Assign(to.lvalue, value))
 }
@@ -179,7 +180,10 @@ pub fn compound_assigned<'t>(
     let may_write = modifiable(at.left, &left);
     let to = target(at.operator, left)?;
     let made = compound_of(alloc, structs, op, at.operator, to.ty, to.lvalue, right)?;
-    may_write?;
+    match may_write {
+        Ok(()) => {}
+        Err(fault) => return Err(fault),
+    }
     Ok(made)
 }
 
@@ -216,6 +220,9 @@ pub fn stepped<'t>(
     let may_write = modifiable(first, &operand);
     let to = target(operator, operand)?;
     let made = step_of(structs, bump, operator, to.ty, to.lvalue)?;
-    may_write?;
+    match may_write {
+        Ok(()) => {}
+        Err(fault) => return Err(fault),
+    }
     Ok(made)
 }

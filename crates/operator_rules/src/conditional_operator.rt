@@ -2,18 +2,18 @@
 
 ghost use Rattle.std.specs.Prelude.{◌≡◌, IfOk};
 ghost use Rattle.rvt_tree.specs.Syntax.{conditional, null_pointer};
-ghost use Rattle.rvt_tree.specs.Views.{expr_view};
-ghost use Rattle.expression_typing.specs.Operands.{an_integer, a_pointer, a_null};
+ghost use Rattle.rvt_tree.specs.Views.{lvalue_view, expr_view, exprs_view};
+ghost use Rattle.expression_typing.specs.Operands.{a_place, an_integer, a_pointer, a_null, a_void};
 ghost use Rattle.expression_typing.specs.ConditionalOperator.{chosen, choice_of};
-ghost use Rattle.typing_base.specs.Views.{operand_view};
+ghost use Rattle.typing_base.specs.Views.{operand_view, type_view};
 ghost use Rattle.typing_base.specs.Follows.{GivesOperand};
 
 use crate::conversions::{integer_converted, tested};
 use crate::kinds::is_same_pointee;
 use rvt_num::Kind;
-use rvt_tree::{Expr, Place, Pointee};
+use rvt_tree::{Expr, Exprs, Lvalue, Place, Pointee};
 use std::alloc::{AllocError, Global};
-use typing_base::{Fault, Operand, wrong_type};
+use typing_base::{Fault, Operand, PlaceType, wrong_type};
 
 /// The second and the third operand are both integers, or both pointers.
 pub fn choice_of<'t>(
@@ -26,11 +26,11 @@ pub fn choice_of<'t>(
     ensures { GivesOperand (choice_of at (operand_view test.entry) (operand_view x.entry) (operand_view y.entry)) result }
 {
     let condition = tested(at, test)?;
-    chosen(alloc, at, condition, x, y)
+    let whole = chosen(alloc, at, condition, x, y)?;
+    Ok(whole)
 }
 
 /// Two integers, of their common kind; two pointers to one type; or a pointer and a null pointer constant.
-#[tactic(auto, using(crate::proofs::NeitherPointers::place_not_chosen, crate::proofs::NeitherPointers::void_not_chosen))]
 fn chosen<'t>(
     alloc: Global,
     at: Place,
@@ -46,8 +46,8 @@ fn chosen<'t>(
             pointer_or(alloc, at, test, pointee, to_constant, p, y)
         }
         Operand::Null => null_or(alloc, at, test, y),
-        Operand::Place(_, _, _) => Err(wrong_type(at)),
-        Operand::Void(_, _) => Err(wrong_type(at)),
+        Operand::Place(ty, fixed, lvalue) => place_or(at, test, ty, fixed, lvalue, y),
+        Operand::Void(function, given) => void_or(at, test, function, given, y),
     }
 }
 
@@ -90,12 +90,7 @@ fn integer_or<'t>(
     }
 }
 
-fn null_or<'t>(
-    alloc: Global,
-    at: Place,
-    test: Expr,
-    y: Operand<'t>,
-) -> Result<Operand<'t>, Fault>
+fn null_or<'t>(alloc: Global, at: Place, test: Expr, y: Operand<'t>) -> Result<Operand<'t>, Fault>
     ensures { GivesOperand (chosen at (expr_view test) a_null (operand_view y.entry)) result }
 {
     match y {
@@ -150,4 +145,37 @@ fn pointer_or_null<'t>(
 {
     let value = conditional(alloc, test, p, Expr::Null)?;
     Ok(Operand::Pointer(pointee, to_constant, value))
+}
+
+/// A struct is not chosen, whatever the other operand is.
+fn place_or<'t>(
+    at: Place,
+    test: Expr,
+    ty: PlaceType<'t>,
+    fixed: bool,
+    lvalue: Lvalue,
+    y: Operand<'t>,
+) -> Result<Operand<'t>, Fault>
+    ensures { GivesOperand (chosen at (expr_view test) (a_place (type_view ty.entry) fixed (lvalue_view lvalue)) (operand_view y.entry)) result }
+{
+    match y {
+        Operand::Pointer(_, _, _) => Err(wrong_type(at)),
+        _ => Err(wrong_type(at)),
+    }
+}
+
+/// Nor is a call without a result.
+fn void_or<'t>(
+    at: Place,
+    test: Expr,
+    function: u32,
+    given: Exprs,
+    y: Operand<'t>,
+) -> Result<Operand<'t>, Fault>
+    ensures { GivesOperand (chosen at (expr_view test) (a_void function (exprs_view given)) (operand_view y.entry)) result }
+{
+    match y {
+        Operand::Pointer(_, _, _) => Err(wrong_type(at)),
+        _ => Err(wrong_type(at)),
+    }
 }

@@ -1,8 +1,9 @@
 //! Constant expressions (C 6.6): built of constants and operators, whose value is computed without a trap.
 
-ghost use Rattle.std.specs.Prelude.{◌≡◌, IfOk, OnTrue, false, true, not, Option, Some, option_map, option_and_then, if◌then◌else◌};
+ghost use Rattle.std.specs.Prelude.{◌≡◌, ◌++◌, ◌∷◌, [], IfOk, OnOk, false, true, not, option_map, option_and_then, if◌then◌else◌};
+ghost use Rattle.std.specs.Bool.{OnTrue};
 ghost use Rattle.rvt_num.specs.Kinds.{promoted_kind};
-ghost use Rattle.rvt_num.specs.Number.{Number};
+ghost use Rattle.rvt_num.specs.declared.operations.UnOp.TheVariants.{Minus, Flip};
 ghost use Rattle.rvt_num.specs.Operations.{Operands, binary_of, unary_of, converted};
 ghost use Rattle.rvt_tree.specs.Views.{expr_view};
 ghost use Rattle.expression_typing.specs.ConstantExpressions.{is_built_of_constants, holds, truth_number, unless_trapped, number_given, constant_of, integer_constant_of};
@@ -17,11 +18,7 @@ use std::alloc::Global;
 use typing_base::{Cause, Fault, Operand, broken};
 
 /// An integer constant expression, at its first token.
-pub fn integer_constant_of<'t>(
-    alloc: Global,
-    at: Place,
-    operand: Operand<'t>,
-) -> Result<Num, Fault>
+pub fn integer_constant_of<'t>(alloc: Global, at: Place, operand: Operand<'t>) -> Result<Num, Fault>
     ensures { Gives (λ n. n) (integer_constant_of at (operand_view operand.entry)) result }
 {
     match operand {
@@ -75,21 +72,30 @@ fn is_built_of_constants(e: &Expr) -> bool
 // ---- the value, from the operands' values; a chain of casts by a loop
 
 #[cycle(number_given)]
+#[tactic(auto, using(crate::proofs::CastsGiven::cast_back_append))]
 fn number_given(alloc: Global, e: &Expr) -> Result<Option<Num>, Fault>
     ensures { IfOk result (λ number. number ≡ number_given (expr_view e.now)) }
 {
     let mut inner = e;
     let mut kinds = Vec::new(alloc);
     'casts: while let Expr::Cast(kind, operand) = inner {
-        kinds.push(*kind)?;
+        put(&mut kinds, *kind)?;
         inner = operand;
     }
     let number = form_given(alloc, inner)?;
     Ok(cast_back(kinds, number))
 }
 
+fn put(kinds: &mut Vec<Kind>, kind: Kind) -> Result<(), Fault>
+    ensures { OnOk result (kinds.new.items ≡ kinds.old.items ++ kind ∷ []) }
+{
+    match kinds.push(kind) {
+        Ok(()) => Ok(()),
+        Err(_) => Err(Fault::Memory),
+    }
+}
+
 #[cycle(number_given)]
-#[tactic(none)]
 fn form_given(alloc: Global, e: &Expr) -> Result<Option<Num>, Fault>
     ensures { IfOk result (λ number. number ≡ number_given (expr_view e.now)) }
 {
@@ -175,7 +181,7 @@ fn cast_back(mut kinds: Vec<Kind>, x: Option<Num>) -> Option<Num>
 }
 
 fn minus(x: Option<Num>) -> Option<Num>
-    ensures { result ≡ option_map (unary_of UnOp.Minus) x }
+    ensures { result ≡ option_map (unary_of Minus) x }
 {
     match x {
         Some(n) => Some(Num::wrapped(n.kind(), -n.value())),
@@ -184,7 +190,7 @@ fn minus(x: Option<Num>) -> Option<Num>
 }
 
 fn complement(x: Option<Num>) -> Option<Num>
-    ensures { result ≡ option_map (unary_of UnOp.Flip) x }
+    ensures { result ≡ option_map (unary_of Flip) x }
 {
     match x {
         Some(n) => Some(Num::wrapped(n.kind(), -1 - n.value())),
@@ -244,13 +250,7 @@ fn conditional(test: Option<Num>, x: Option<Num>, y: Option<Num>) -> Option<Num>
     ensures { result ≡ option_and_then (λ a. if holds a then x else y) test }
 {
     match test {
-        Some(a) => {
-            if holds(a) {
-                x
-            } else {
-                y
-            }
-        }
+        Some(a) => { if holds(a) { x } else { y } }
         None => None,
     }
 }

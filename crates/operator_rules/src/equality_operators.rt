@@ -2,19 +2,19 @@
 
 ghost use Rattle.std.specs.Prelude.{◌≡◌, IfOk};
 ghost use Rattle.rvt_num.specs.declared.kinds.Kind.TheVariants.{I32};
-ghost use Rattle.rvt_tree.specs.Views.{expr_view};
-ghost use Rattle.expression_typing.specs.Operands.{an_integer, a_null, an_int_value};
+ghost use Rattle.rvt_tree.specs.Views.{lvalue_view, expr_view, exprs_view};
+ghost use Rattle.expression_typing.specs.Operands.{a_place, an_integer, a_null, a_void, an_int_value};
 ghost use Rattle.expression_typing.specs.EqualityOperators.{equality_of};
-ghost use Rattle.typing_base.specs.Views.{operand_view};
+ghost use Rattle.typing_base.specs.Views.{operand_view, type_view};
 ghost use Rattle.typing_base.specs.Follows.{GivesOperand};
 ghost use Rattle.operator_rules.specs.Forms.{of_integers, of_pointers};
 
 use crate::conversions::pointer_converted;
 use crate::integer_operators::on_common;
 use rvt_num::{BinOp, Kind};
-use rvt_tree::{Expr, Place};
+use rvt_tree::{Expr, Exprs, Lvalue, Place};
 use std::alloc::{AllocError, Global};
-use typing_base::{Fault, Operand, wrong_type};
+use typing_base::{Fault, Operand, PlaceType, wrong_type};
 
 #[derive(Clone, Copy)]
 pub enum Equality {
@@ -57,7 +57,6 @@ fn compared<'t>(
 }
 
 /// Two integers; or a pointer, and a pointer to the same type or a null pointer constant, `const` or not.
-#[tactic(auto, using(crate::proofs::NeitherPointers::place_not_compared, crate::proofs::NeitherPointers::void_not_compared))]
 pub fn equality_of<'t>(
     alloc: Global,
     equality: Equality,
@@ -74,8 +73,8 @@ pub fn equality_of<'t>(
             Ok(compared(alloc, equality, p, q)?)
         }
         Operand::Null => null_and(alloc, equality, at, y),
-        Operand::Place(_, _, _) => Err(wrong_type(at)),
-        Operand::Void(_, _) => Err(wrong_type(at)),
+        Operand::Place(ty, fixed, lvalue) => place_and(equality, at, ty, fixed, lvalue, y),
+        Operand::Void(function, given) => void_and(equality, at, function, given, y),
     }
 }
 
@@ -115,6 +114,39 @@ fn null_and<'t>(
 {
     match y {
         Operand::Pointer(_, _, q) => Ok(compared(alloc, equality, Expr::Null, q)?),
+        _ => Err(wrong_type(at)),
+    }
+}
+
+/// A struct is compared with nothing, whatever stands on the right.
+fn place_and<'t>(
+    equality: Equality,
+    at: Place,
+    ty: PlaceType<'t>,
+    fixed: bool,
+    lvalue: Lvalue,
+    y: Operand<'t>,
+) -> Result<Operand<'t>, Fault>
+    ensures { GivesOperand (equality_of (of_integers equality) (of_pointers equality) at (a_place (type_view ty.entry) fixed (lvalue_view lvalue)) (operand_view y.entry)) result }
+{
+    match y {
+        Operand::Pointer(_, _, _) => Err(wrong_type(at)),
+        _ => Err(wrong_type(at)),
+    }
+}
+
+/// Nor is a call without a result.
+fn void_and<'t>(
+    equality: Equality,
+    at: Place,
+    function: u32,
+    given: Exprs,
+    y: Operand<'t>,
+) -> Result<Operand<'t>, Fault>
+    ensures { GivesOperand (equality_of (of_integers equality) (of_pointers equality) at (a_void function (exprs_view given)) (operand_view y.entry)) result }
+{
+    match y {
+        Operand::Pointer(_, _, _) => Err(wrong_type(at)),
         _ => Err(wrong_type(at)),
     }
 }

@@ -16,7 +16,9 @@ mod operators;
 mod relational_operators;
 mod unary_arithmetic;
 
-pub use assignment::{AssignmentTarget, Sides, assigned, compound_assigned, modifiable, stepped, target};
+pub use assignment::{
+    AssignmentTarget, Sides, assigned, compound_assigned, modifiable, stepped, target,
+};
 pub use cast_operators::{WrittenType, cast_to};
 pub use conditional_operator::choice_of;
 pub use constant_expressions::{constant_of, integer_constant_of};
@@ -24,4 +26,3 @@ pub use conversions::{converted_to, integer_converted, pointer_converted, promot
 pub use function_calls::passed_as;
 pub use operators::{bump_after, bump_before, operated, set};
 pub use unary_arithmetic::{Sign, not_of, on_promoted};
-

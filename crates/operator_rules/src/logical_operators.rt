@@ -47,7 +47,8 @@ pub fn logical_of<'t>(
     ensures { GivesOperand (logical_of (logical_form form) at (operand_view x.entry) (operand_view y.entry)) result }
 {
     let a = tested(at, x)?;
-    logical_with(alloc, form, at, a, y)
+    let whole = logical_with(alloc, form, at, a, y)?;
+    Ok(whole)
 }
 
 fn logical_with<'t>(

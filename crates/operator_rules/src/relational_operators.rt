@@ -25,7 +25,11 @@ pub fn order_of<'t>(
             Operand::Integer(b, y, _) => Ok(on_common(alloc, op, a, x, b, y)?),
             _ => Err(wrong_type(at)),
         },
-        Operand::Pointer(_, _, _) | Operand::Null => match y {
+        Operand::Pointer(_, _, _) => match y {
+            Operand::Pointer(_, _, _) | Operand::Null => Err(not_in_profile(at)),
+            _ => Err(wrong_type(at)),
+        },
+        Operand::Null => match y {
             Operand::Pointer(_, _, _) | Operand::Null => Err(not_in_profile(at)),
             _ => Err(wrong_type(at)),
         },

@@ -55,11 +55,7 @@ pub fn on_promoted<'t>(
 }
 
 /// `!a`
-pub fn not_of<'t>(
-    alloc: Global,
-    at: Place,
-    operand: Operand<'t>,
-) -> Result<Operand<'t>, Fault>
+pub fn not_of<'t>(alloc: Global, at: Place, operand: Operand<'t>) -> Result<Operand<'t>, Fault>
     ensures { GivesOperand (not_of at (operand_view operand.entry)) result }
 {
     let value = tested(at, operand)?;
