@@ -21,5 +21,5 @@ form_given-returns-in_ok-y-in-Either t c =
 pub form_given-returns-in_ok-y-in-Choice : goal.form_given-returns-in_ok-y-in-Choice
 form_given-returns-in_ok-y-in-Choice t c =
     choice_given _ _ _ _ _ _ _ _ (ap expr_view c.deref-in-Choice-2.ensures) (ap expr_view c.deref-in-Choice-3.ensures)
-    c.in_ok-x-in-Choice.ensures c.in_ok-y-in-Choice.ensures _ _ _ (ap expr_view c.deref-in-Choice.ensures) c.in_ok-condition.ensures
+    c.in_ok-x-in-Choice.ensures c.in_ok-y-in-Choice.ensures _ _ _ (ap expr_view c.deref-in-Choice.ensures) c.in_ok-condition-in-Choice.ensures
     (ap expr_view c.in-Choice.is) c.conditional.ensures
