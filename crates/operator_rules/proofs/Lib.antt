@@ -3,3 +3,4 @@ pub mod CastsGiven
 pub mod FormsGiven
 pub mod KeptResults
 pub mod Steps
+pub mod CastDepths

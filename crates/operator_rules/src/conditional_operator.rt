@@ -26,8 +26,7 @@ pub fn choice_of<'t>(
     ensures { GivesOperand (choice_of at (operand_view test.entry) (operand_view x.entry) (operand_view y.entry)) result }
 {
     let condition = tested(at, test)?;
-    let whole = chosen(alloc, at, condition, x, y)?;
-    Ok(whole)
+    chosen(alloc, at, condition, x, y)
 }
 
 /// Two integers, of their common kind; two pointers to one type; or a pointer and a null pointer constant.

@@ -14,7 +14,7 @@ ghost use Rattle.operator_rules.specs.CastChains.{cast_back};
 use crate::integer_operators::is_shift;
 use rvt_num::{BinOp, Kind, Num, binary, convert};
 use rvt_tree::{Expr, Place};
-use std::alloc::Global;
+use std::alloc::{AllocError, Global};
 use typing_base::{Cause, Fault, Operand, broken};
 
 /// An integer constant expression, at its first token.
@@ -34,7 +34,7 @@ pub fn integer_constant_of<'t>(alloc: Global, at: Place, operand: Operand<'t>) -
 }
 
 /// The value of a constant expression; none where that traps.
-pub fn constant_of(alloc: Global, e: &Expr) -> Result<Option<Num>, Fault>
+pub fn constant_of(alloc: Global, e: &Expr) -> Result<Option<Num>, AllocError>
     ensures { IfOk result (λ number. number ≡ constant_of (expr_view e.now)) }
 {
     if !is_built_of_constants(e) {
@@ -73,7 +73,7 @@ fn is_built_of_constants(e: &Expr) -> bool
 
 #[cycle(number_given)]
 #[tactic(auto, using(crate::proofs::CastsGiven::cast_back_append))]
-fn number_given(alloc: Global, e: &Expr) -> Result<Option<Num>, Fault>
+fn number_given(alloc: Global, e: &Expr) -> Result<Option<Num>, AllocError>
     ensures { IfOk result (λ number. number ≡ number_given (expr_view e.now)) }
 {
     let mut inner = e;
@@ -86,17 +86,17 @@ fn number_given(alloc: Global, e: &Expr) -> Result<Option<Num>, Fault>
     Ok(cast_back(kinds, number))
 }
 
-fn put(kinds: &mut Vec<Kind>, kind: Kind) -> Result<(), Fault>
+fn put(kinds: &mut Vec<Kind>, kind: Kind) -> Result<(), AllocError>
     ensures { OnOk result (kinds.new.items ≡ kinds.old.items ++ kind ∷ []) }
 {
     match kinds.push(kind) {
         Ok(()) => Ok(()),
-        Err(_) => Err(Fault::Memory),
+        Err(_) => Err(AllocError),
     }
 }
 
 #[cycle(number_given)]
-fn form_given(alloc: Global, e: &Expr) -> Result<Option<Num>, Fault>
+fn form_given(alloc: Global, e: &Expr) -> Result<Option<Num>, AllocError>
     ensures { IfOk result (λ number. number ≡ number_given (expr_view e.now)) }
 {
     match e {
@@ -256,14 +256,14 @@ fn conditional(test: Option<Num>, x: Option<Num>, y: Option<Num>) -> Option<Num>
 }
 
 /// Operands of other kinds than an operation has, which none of the rules makes, are not computed.
-fn operation(op: BinOp, x: Option<Num>, y: Option<Num>) -> Result<Option<Num>, Fault>
+fn operation(op: BinOp, x: Option<Num>, y: Option<Num>) -> Result<Option<Num>, AllocError>
     ensures { IfOk result (λ number. number ≡ option_and_then (λ a. option_and_then (λ b. unless_trapped (binary_of op a b)) y) x) }
 {
     match x {
         Some(a) => match y {
             Some(b) => {
                 if !are_operands(op, a, b) {
-                    return Err(Fault::Memory);
+                    return Err(AllocError);
                 }
                 match binary(op, a, b) {
                     Ok(n) => Ok(Some(n)),

@@ -47,8 +47,7 @@ pub fn logical_of<'t>(
     ensures { GivesOperand (logical_of (logical_form form) at (operand_view x.entry) (operand_view y.entry)) result }
 {
     let a = tested(at, x)?;
-    let whole = logical_with(alloc, form, at, a, y)?;
-    Ok(whole)
+    logical_with(alloc, form, at, a, y)
 }
 
 fn logical_with<'t>(
