@@ -1,0 +1,3 @@
+pub mod CastChains
+pub mod Forms
+pub mod Views
