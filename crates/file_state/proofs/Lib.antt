@@ -1,3 +1,6 @@
+mod Completed
+mod Entries
+mod Integers
 mod Numbered
 mod Parts
 mod ScopeNames

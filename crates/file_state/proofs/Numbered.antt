@@ -5,6 +5,7 @@ use Rattle.std.specs.List.{position_or_len, prefix_len}
 use Rattle.std.specs.Str.{bytes_eq}
 use Rattle.std.proofs.lemmas.List.{map-append, length-map}
 use Rattle.std.proofs.lemmas.Cmp.{nat_list_eq_equiv}
+use Rattle.std.proofs.lemmas.Slice.Eq.{bytes_eq-Decides}
 use Rattle.name_scopes.specs.Names.{Named, named_in}
 use Rattle.typing_base.specs.declared.structures.Structure.{Structure}
 use Rattle.file_typing.specs.FileScope.{StructEntry, FunctionEntry, incomplete, undeclared, struct_number, function_number}
@@ -20,7 +21,7 @@ found None here n = if here then Some n else None
 
 module _ {X : Type 0} (p : X → Bool) where
   first_or_later : (b : Bool) (n m : ℕ) → cond (nat_lt (cond (not b) (1 + n) 0) (suc m)) (Some (cond (not b) (1 + n) 0)) None ≡ cond b (Some 0) (option_map suc (cond (nat_lt n m) (Some n) None))
-  first_or_later true n m = refl
+  first_or_later true n m = let e : nat_lt 0 (suc m) ≡ true = grind arith in rw e refl
   first_or_later false n m = later (nat_lt n m) refl
     where
       later : (b : Bool) → nat_lt n m ≡ b → cond (nat_lt (1 + n) (suc m)) (Some (1 + n)) None ≡ option_map suc (cond (nat_lt n m) (Some n) None)
@@ -51,7 +52,7 @@ found_nowhere (Some i) n = refl
 found_nowhere None n = refl
 
 same_name : (a b : List ℕ) → bytes_eq a b ≡ true → a ≡ b
-same_name a b e = grind
+same_name a b e = (bytes_eq-Decides a b).0 e
 
 first_in : (index : List (Named ℕ)) (name other : List ℕ) (n : ℕ) → named_in (with_first name n index) other ≡ found (named_in index other) (bytes_eq other name) n
 first_in index name other n = cases (named_in index name) (bytes_eq other name) refl refl

@@ -1,8 +1,9 @@
 -- Indexes of what a file has: the number of the first struct of a tag, and that of the first function of a name.
-use Rattle.std.specs.Prelude.{◌≡◌, ℕ, List, ◌∷◌, map, Option, is_some, if◌then◌else◌}
+use Rattle.std.specs.Prelude.{◌≡◌, ℕ, List, ◌∷◌, map, cond, Option, is_some, if◌then◌else◌}
 use Rattle.name_scopes.specs.Names.{Named, named_in}
 use Rattle.file_typing.specs.FileScope.{struct_number, function_number}
 use Rattle.file_typing.specs.FunctionDeclarators.{functions_declared}
+use Rattle.file_state.specs.declared.entries.FunctionEntry.{FunctionEntry}
 use Rattle.file_state.specs.declared.states.FileState.{FileState}
 use Rattle.file_state.specs.Views.{struct_entry_view, function_entry_view}
 
@@ -19,3 +20,7 @@ pub record IsIndexed (state : FileState) : Type 0 where
   pub structs : IsNumbered state.struct_numbers (struct_number (map struct_entry_view state.environment.structs.items))
   pub functions : IsNumbered state.function_numbers (function_number (map function_entry_view state.functions.items))
   pub declared : state.declared ≡ functions_declared (map function_entry_view state.functions.items)
+
+-- what a function adds to the count of those that are declared
+abbrev pub times_declared : FunctionEntry → ℕ
+times_declared entry = cond (is_some (function_entry_view entry).interface) 1 0

@@ -1,15 +1,24 @@
 //! What a file has declared up to a place in it, and its changes (C 6.2.1, 6.2.3, 6.9).
 #![tactic(auto)]
 
+mod comparisons;
 mod copies;
 mod entries;
+mod enumerations;
+mod functions;
 mod names;
 mod numbers;
+
 mod states;
+mod structs;
 mod tags;
 
 pub use copies::{copied_interface, copied_type, copied_types};
 pub use entries::{FunctionBody, FunctionEntry, Interface, Members};
+pub use enumerations::{begins_enum, is_int, with_constant, with_enum};
+pub use functions::{add_function, entity_in, function_declared, may_name_function, unless_unlike, with_body};
 pub use names::{declared_twice, unless_declared, unless_declared_in_file, with_name};
+pub use comparisons::{same_results, same_types};
 pub use states::FileState;
+pub use structs::{body_begun, body_ended, cell_kinds, has_field, with_field};
 pub use tags::{add_struct, begins_body, of_struct, struct_named, tagged_in, tagged_with, with_tag};

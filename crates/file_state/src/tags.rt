@@ -18,7 +18,7 @@ use c_syntax::Word;
 use rvt_tree::{CType, Name};
 use std::alloc::{AllocError, Global};
 use typing_base::{
-    Fault, NamedType, QualifiedType, Scope, Structure, Tagged, copied_name, wrong_type,
+    Fault, NamedType, QualifiedType, Scope, Structure, Tagged, wrong_type,
 };
 
 /// One more tag.
@@ -61,7 +61,7 @@ pub fn tagged_in(state: &FileState, tag: &[u8]) -> Option<Tagged>
     scope.tagged(tag)
 }
 
-fn at(structs: &[Structure], number: usize) -> Option<&Structure>
+pub fn at(structs: &[Structure], number: usize) -> Option<&Structure>
     ensures { option_copied result ≡ slice_get structs.now number }
 {
     structs.get(number)
@@ -118,7 +118,7 @@ pub fn begins_body(alloc: Global, state: &FileState, tag: &Option<Word>) -> Resu
 pub fn add_struct(
     alloc: Global,
     state: &mut FileState,
-    tag: &Name,
+    tag: &[u8],
     tagged: bool,
 ) -> Result<u32, AllocError>
     requires indexed { IsIndexed state.old }
@@ -131,8 +131,8 @@ pub fn add_struct(
         return Err(AllocError);
     }
     let number = number as u32;
-    let name = copied_name(alloc, tag)?;
-    number_tag(&mut state.struct_numbers, tag.bytes(), tagged, number)?;
+    let name = Name::new(alloc, tag)?;
+    number_tag(&mut state.struct_numbers, tag, tagged, number)?;
     state.environment.structs.push(Structure {
         tag: name,
         tagged,
@@ -169,7 +169,7 @@ fn declare_struct(
             Ok(of_struct(number, constant))
         }
         None => {
-            let number = add_struct(alloc, state, &tag.name, true)?;
+            let number = add_struct(alloc, state, tag.name.bytes(), true)?;
             with_tag(state, &tag.name, Tagged::Struct(number))?;
             Ok(of_struct(number, constant))
         }
