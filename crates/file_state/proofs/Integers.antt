@@ -1,7 +1,7 @@
 -- A number of a kind stays as it is.
 use Rattle.std.proofs.Common.{◌≡◌, ℕ, ◌<◌, ◌-◌, ◌%◌, ◌^◌, nat_lt, true, false, refl, arith}
 use Rattle.std.specs.Prelude.{ℤ, pos, negsuc, ◌≤ℤ◌}
-use Rattle.std.proofs.Common.{ints}
+use Rattle.std.proofs.lemmas.Int.{ints}
 use Rattle.rvt_num.specs.Kinds.{IsOf}
 use Rattle.rvt_num.specs.Number.{Number}
 use Rattle.rvt_num.specs.Wrapping.{wrapped}

@@ -1,6 +1,6 @@
 mod Completed
-mod Entries
 mod Integers
 mod Numbered
+mod OutlineSteps
 mod Parts
 mod ScopeNames

@@ -4,13 +4,17 @@ use Rattle.std.specs.Prelude.{position, if◌then◌else◌, ◌&&◌, not}
 use Rattle.std.specs.List.{position_or_len, prefix_len}
 use Rattle.std.specs.Str.{bytes_eq}
 use Rattle.std.proofs.lemmas.List.{map-append, length-map}
+use Rattle.std.proofs.lemmas.List.Sums.{sum_by_push}
 use Rattle.std.proofs.lemmas.Cmp.{nat_list_eq_equiv}
 use Rattle.std.proofs.lemmas.Slice.Eq.{bytes_eq-Decides}
 use Rattle.name_scopes.specs.Names.{Named, named_in}
 use Rattle.typing_base.specs.declared.structures.Structure.{Structure}
 use Rattle.file_typing.specs.FileScope.{StructEntry, FunctionEntry, incomplete, undeclared, struct_number, function_number}
 use Rattle.file_state.specs.Indexes.{IsNumbered, with_first}
-use Rattle.file_state.specs.Views.{struct_entry_view}
+use Rattle.file_typing.specs.FunctionDeclarators.{functions_declared}
+use Rattle.file_state.specs.declared.entries.FunctionEntry.{FunctionEntry as Entry}
+use Rattle.file_state.specs.declared.entries.Interface.{Interface}
+use Rattle.file_state.specs.Views.{struct_entry_view, function_entry_view, interface_view}
 
 -- what is found before, or else here
 abbrev found : Option ℕ → Bool → ℕ → Option ℕ
@@ -103,3 +107,35 @@ struct_numbered index new structs all s tag tagged number is count made pushed e
     subst (λ (entries : List StructEntry). IsNumbered new (struct_number entries)) (sym (structs_pushed structs all s pushed ∙ ap (λ (e : StructEntry). map struct_entry_view structs ++ e ∷ []) entry))
     (subst (λ (i : List (Named ℕ)). IsNumbered i (struct_number (map struct_entry_view structs ++ incomplete tag tagged ∷ []))) (sym (made ∙ ap (λ (n : ℕ). if tagged then with_first tag n index else index) long))
     (struct_entry_numbered index (map struct_entry_view structs) tag tagged is))
+
+-- ---- functions
+
+abbrev name_test : List ℕ → FunctionEntry → Bool
+name_test name entry = bytes_eq entry.name name
+
+pub functions_pushed : (entries all : List Entry) (e : Entry) → all ≡ entries ++ e ∷ [] → map function_entry_view all ≡ map function_entry_view entries ++ function_entry_view e ∷ []
+functions_pushed entries all e is = ap (map function_entry_view) is ∙ map-append function_entry_view entries (e ∷ [])
+
+pub function_numbered : (index new : List (Named ℕ)) (entries all : List Entry) (e : Entry) (name : List ℕ) (number : ℕ)
+    → IsNumbered index (function_number (map function_entry_view entries)) → number ≡ length entries → new ≡ with_first name number index
+    → all ≡ entries ++ e ∷ [] → function_entry_view e ≡ undeclared name
+    → IsNumbered new (function_number (map function_entry_view all))
+function_numbered index new entries all e name number is count made pushed entry =
+    let long : number ≡ length (map function_entry_view entries) = count ∙ sym (length-map entries function_entry_view) in
+    subst (λ (es : List FunctionEntry). IsNumbered new (function_number es)) (sym (functions_pushed entries all e pushed ∙ ap (λ (x : FunctionEntry). map function_entry_view entries ++ x ∷ []) entry))
+    (subst (λ (i : List (Named ℕ)). IsNumbered i (function_number (map function_entry_view entries ++ undeclared name ∷ []))) (sym (made ∙ ap (λ (n : ℕ). with_first name n index) long))
+    (numbered_more name_test index (map function_entry_view entries) (undeclared name) is name (λ other. nat_list_eq_equiv.symm name other)))
+
+pub still_declared : (count : ℕ) (entries all : List Entry) (e : Entry) → count ≡ functions_declared (map function_entry_view entries)
+    → all ≡ entries ++ e ∷ [] → is_some e.interface ≡ false
+    → count ≡ functions_declared (map function_entry_view all)
+still_declared count entries all e is pushed none =
+    let one : functions_declared (map function_entry_view entries ++ function_entry_view e ∷ []) ≡ functions_declared (map function_entry_view entries) + cond (is_some (function_entry_view e).interface) 1 0 =
+        sum_by_push (λ (x : FunctionEntry). cond (is_some x.interface) 1 0) (map function_entry_view entries) (function_entry_view e) in
+    let no_more : cond (is_some (function_entry_view e).interface) 1 0 ≡ 0 = none_more e.interface none in
+    let whole : functions_declared (map function_entry_view all) ≡ functions_declared (map function_entry_view entries ++ function_entry_view e ∷ []) = ap functions_declared (functions_pushed entries all e pushed) in
+    omega (arith, is, one, no_more, whole)
+  where
+    none_more : (o : Option Interface) → is_some o ≡ false → cond (is_some (option_map interface_view o)) 1 0 ≡ 0
+    none_more None e = refl
+    none_more (Some x) e = absurd (let no : ⊥ = grind (arith, e) in no)

@@ -1,18 +1,16 @@
 //! Functions and their declarations (C 6.7.6.3, 6.9.1).
 
-ghost use Rattle.std.specs.Prelude.{◌≡◌, ◌<◌, ◌≤◌, ◌+◌, ◌++◌, ◌∷◌, [], length, map, option_map, Some, is_some, IfOk, OnOk, slice_get};
-ghost use Rattle.std.specs.Option.{option_copied};
+ghost use Rattle.std.specs.Prelude.{◌≡◌, ◌++◌, ◌∷◌, [], length, option_map, IfOk, OnOk};
 ghost use Rattle.expression_typing.specs.Entities.{in_scope};
 ghost use Rattle.file_typing.specs.FileScope.{undeclared, with_functions};
-ghost use Rattle.file_typing.specs.FunctionDeclarators.{unless_other, unless_too_many, may_name_function, unless_unlike, with_function, number_of_function, entry_of, with_interface, with_entry, named_function, function_declared};
+ghost use Rattle.file_typing.specs.FunctionDeclarators.{unless_other, unless_too_many, may_name_function, unless_unlike, with_function, number_of_function, named_function};
 ghost use Rattle.typing_base.specs.Follows.{Gives};
 ghost use Rattle.typing_base.specs.Views.{entity_view};
-ghost use Rattle.file_typing.specs.FunctionDefinitions.{with_body};
-ghost use Rattle.file_state.specs.Indexes.{IsIndexed, times_declared};
-ghost use Rattle.file_state.specs.Views.{body_view, file_state_view, function_entry_view, interface_view};
+ghost use Rattle.file_state.specs.Indexes.{IsIndexed};
+ghost use Rattle.file_state.specs.Views.{file_state_view, interface_view};
 
-use crate::copies::{copied_interface, copied_types};
-use crate::entries::{FunctionBody, FunctionEntry, Interface};
+use crate::copies::copied_types;
+use crate::entries::{FunctionEntry, Interface};
 use crate::names::{declared_twice, with_name};
 use crate::numbers::number_first;
 use crate::comparisons::{same_results, same_types};
@@ -98,6 +96,7 @@ pub fn unless_unlike(
 }
 
 /// One more function, which is not declared; its number.
+#[tactic(auto, using(crate::proofs::Numbered::functions_pushed, crate::proofs::Numbered::function_numbered, crate::proofs::Numbered::still_declared))]
 pub fn add_function(
     alloc: Global,
     state: &mut FileState,
@@ -124,24 +123,25 @@ pub fn add_function(
 }
 
 /// A function of this name gets its number, if it has none yet.
-fn with_function(alloc: Global, state: &mut FileState, word: &Word) -> Result<u32, AllocError>
+pub fn with_function(alloc: Global, state: &mut FileState, word: &Word) -> Result<u32, AllocError>
     requires indexed { IsIndexed state.old }
     ensures number { IfOk result (λ number. number ≡ number_of_function (file_state_view state.new) word.now) }
-    ensures within { IfOk result (λ number. number < length state.new.functions.items) }
     ensures added { OnOk result (file_state_view state.new ≡ with_function word.now (file_state_view state.old)) }
     ensures indexed { OnOk result (IsIndexed state.new) }
 {
     match state.function_number(word.name.bytes()) {
+        Some(number) => return Ok(number),
+        None => {}
+    }
+    add_function(alloc, state, word.name.bytes())?;
+    match state.function_number(word.name.bytes()) {
         Some(number) => Ok(number),
-        None => {
-            let number = add_function(alloc, state, word.name.bytes())?;
-            Ok(number)
-        }
+        None => Err(AllocError),
     }
 }
 
 /// A name that is not declared yet stands for the function.
-fn named_function(
+pub fn named_function(
     alloc: Global,
     state: &mut FileState,
     word: &Word,
@@ -150,7 +150,6 @@ fn named_function(
 ) -> Result<(), AllocError>
     requires indexed { IsIndexed state.old }
     ensures named { OnOk result (file_state_view state.new ≡ named_function word.now number (interface_view interface.now) (in_scope (file_state_view state.old).names word.now.name) (file_state_view state.old)) }
-    ensures functions { state.new.functions ≡ state.old.functions }
     ensures indexed { OnOk result (IsIndexed state.new) }
 {
     if entity_in(state, word.name.bytes()).is_some() {
@@ -160,102 +159,4 @@ fn named_function(
     let entity = Entity::Function(number, params, interface.result);
     with_name(state, &word.name, entity)?;
     Ok(())
-}
-
-/// The first declaration gives the interface; how many more are declared.
-fn give_interface(
-    alloc: Global,
-    entry: &mut FunctionEntry,
-    interface: &Interface,
-) -> Result<u32, AllocError>
-    ensures given { OnOk result (function_entry_view entry.new ≡ with_interface (interface_view interface.now) (function_entry_view entry.old)) }
-    ensures name { entry.new.name ≡ entry.old.name }
-    ensures count { IfOk result (λ more. times_declared entry.new ≡ times_declared entry.old + more) }
-    ensures few { IfOk result (λ more. more ≤ 1) }
-{
-    match &entry.interface {
-        Some(_) => Ok(0),
-        None => {
-            let copy = copied_interface(alloc, interface)?;
-            entry.interface = Some(copy);
-            Ok(1)
-        }
-    }
-}
-
-/// A definition gives interface and body; how many more are declared.
-fn give_body(entry: &mut FunctionEntry, interface: Interface, body: FunctionBody) -> u32
-    ensures given { function_entry_view entry.new ≡ with_body (interface_view interface) (body_view body) (function_entry_view entry.old) }
-    ensures name { entry.new.name ≡ entry.old.name }
-    ensures count { times_declared entry.new ≡ times_declared entry.old + result }
-    ensures few { result ≤ 1 }
-{
-    let more = match &entry.interface {
-        Some(_) => 0,
-        None => 1,
-    };
-    entry.interface = Some(interface);
-    entry.body = Some(body);
-    more
-}
-
-#[tactic(auto, using(crate::proofs::Entries::entry_given, crate::proofs::Entries::still_numbered, crate::proofs::Entries::more_declared))]
-fn with_interface(
-    alloc: Global,
-    state: &mut FileState,
-    word: &Word,
-    number: u32,
-    interface: &Interface,
-) -> Result<(), AllocError>
-    requires indexed { IsIndexed state.old }
-    requires within { number < length state.old.functions.items }
-    ensures given { OnOk result (file_state_view state.new ≡ with_entry number (with_interface (interface_view interface.now) (entry_of (file_state_view state.old) number word.now)) (file_state_view state.old)) }
-    ensures indexed { OnOk result (IsIndexed state.new) }
-{
-    if state.declared == 4_294_967_295 {
-        return Err(AllocError);
-    }
-    let more = give_interface(alloc, &mut state.functions[number as usize], interface)?;
-    state.declared += more;
-    Ok(())
-}
-
-/// A function gets its body.
-#[tactic(auto, using(crate::proofs::Entries::entry_defined, crate::proofs::Entries::still_numbered, crate::proofs::Entries::more_declared))]
-pub fn with_body(
-    state: &mut FileState,
-    word: &Word,
-    number: u32,
-    interface: Interface,
-    body: FunctionBody,
-) -> Result<(), AllocError>
-    requires indexed { IsIndexed state.old }
-    ensures defined { OnOk result (file_state_view state.new ≡ with_entry number (with_body (interface_view interface) (body_view body) (entry_of (file_state_view state.old) number word.now)) (file_state_view state.old)) }
-    ensures indexed { OnOk result (IsIndexed state.new) }
-{
-    let place = number as usize;
-    if place >= state.functions.len() || state.declared == 4_294_967_295 {
-        return Err(AllocError);
-    }
-    let more = give_body(&mut state.functions[place], interface, body);
-    state.declared += more;
-    Ok(())
-}
-
-/// A function is declared; its number.
-pub fn function_declared(
-    alloc: Global,
-    state: &mut FileState,
-    word: &Word,
-    interface: &Interface,
-) -> Result<u32, AllocError>
-    requires indexed { IsIndexed state.old }
-    ensures number { IfOk result (λ number. number ≡ number_of_function (file_state_view state.new) word.now) }
-    ensures declared { OnOk result (file_state_view state.new ≡ function_declared word.now (interface_view interface.now) (file_state_view state.old)) }
-    ensures indexed { OnOk result (IsIndexed state.new) }
-{
-    let number = with_function(alloc, state, word)?;
-    named_function(alloc, state, word, number, interface)?;
-    with_interface(alloc, state, word, number, interface)?;
-    Ok(number)
 }

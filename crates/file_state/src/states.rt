@@ -1,15 +1,15 @@
 //! What a file has declared.
 
-ghost use Rattle.std.specs.Prelude.{◌≡◌, option_map};
-ghost use Rattle.file_typing.specs.FileScope.{scope_of_file, struct_number, function_number};
-ghost use Rattle.typing_base.specs.Views.{scope_view};
+ghost use Rattle.std.specs.Prelude.{◌≡◌, map};
+ghost use Rattle.file_typing.specs.FileScope.{scope_of_file, struct_number, function_number, structures};
+ghost use Rattle.typing_base.specs.Views.{scope_view, structures_view};
 ghost use Rattle.file_state.specs.Indexes.{IsIndexed};
-ghost use Rattle.file_state.specs.Views.{file_state_view};
+ghost use Rattle.file_state.specs.Views.{file_state_view, struct_entry_view};
 
 use crate::entries::FunctionEntry;
 use name_scopes::Scopes;
 use rvt_tree::Object;
-use typing_base::{Environment, Scope};
+use typing_base::{Environment, Scope, Structure};
 
 /// What a file has declared up to a place in it.
 #[derive(Drop)]
@@ -38,6 +38,15 @@ impl FileState {
             environment: &self.environment,
             evaluated: true,
         }
+    }
+
+    /// The structs by their numbers.
+    #[tactic(auto, using(crate::proofs::Parts::structures_are))]
+    pub fn structs(&self) -> &[Structure]
+        ensures structures { structures_view result.now ≡ structures (file_state_view self.now) }
+        ensures entries { map struct_entry_view result.now ≡ (file_state_view self.now).structs }
+    {
+        self.environment.structs.as_slice()
     }
 
     /// The struct of a tag, if the file has its body or has named it.
