@@ -110,6 +110,9 @@ struct_numbered index new structs all s tag tagged number is count made pushed e
 
 -- ---- functions
 
+abbrev one_if : Bool → ℕ
+one_if b = cond b 1 0
+
 abbrev name_test : List ℕ → FunctionEntry → Bool
 name_test name entry = bytes_eq entry.name name
 
@@ -130,12 +133,12 @@ pub still_declared : (count : ℕ) (entries all : List Entry) (e : Entry) → co
     → all ≡ entries ++ e ∷ [] → is_some e.interface ≡ false
     → count ≡ functions_declared (map function_entry_view all)
 still_declared count entries all e is pushed none =
-    let one : functions_declared (map function_entry_view entries ++ function_entry_view e ∷ []) ≡ functions_declared (map function_entry_view entries) + cond (is_some (function_entry_view e).interface) 1 0 =
+    let one : functions_declared (map function_entry_view entries ++ function_entry_view e ∷ []) ≡ functions_declared (map function_entry_view entries) + one_if (is_some (function_entry_view e).interface) =
         sum_by_push (λ (x : FunctionEntry). cond (is_some x.interface) 1 0) (map function_entry_view entries) (function_entry_view e) in
-    let no_more : cond (is_some (function_entry_view e).interface) 1 0 ≡ 0 = none_more e.interface none in
+    let no_more : one_if (is_some (function_entry_view e).interface) ≡ 0 = none_more e.interface none in
     let whole : functions_declared (map function_entry_view all) ≡ functions_declared (map function_entry_view entries ++ function_entry_view e ∷ []) = ap functions_declared (functions_pushed entries all e pushed) in
     omega (arith, is, one, no_more, whole)
   where
-    none_more : (o : Option Interface) → is_some o ≡ false → cond (is_some (option_map interface_view o)) 1 0 ≡ 0
+    none_more : (o : Option Interface) → is_some o ≡ false → one_if (is_some (option_map interface_view o)) ≡ 0
     none_more None e = refl
     none_more (Some x) e = absurd (let no : ⊥ = grind (arith, e) in no)
