@@ -22,7 +22,7 @@ entry_set structs i old new members within read is =
     map-set struct_entry_view structs i new
     ∙ ap (λ (e : StructEntry). set (map struct_entry_view structs) i e) is
     ∙ ap (λ (o : Option StructEntry). set (map struct_entry_view structs) i (completed o members))
-        (sym (slice_get-map struct_entry_view structs i ∙ ap (option_map struct_entry_view) (slice_get-get_or structs i old within ∙ ap Some (sym read))))
+    (sym (slice_get-map struct_entry_view structs i ∙ ap (option_map struct_entry_view) (slice_get-get_or structs i old within ∙ ap Some (sym read))))
 
 position_set : {X : Type 0} (p : X → Bool) (xs : List X) (i : ℕ) (y d : X) → p y ≡ p (get_or xs i d) → position p (set xs i y) ≡ position p xs
 position_set p xs i y d same = rw (position_or_len-set p xs i y d same, length-set xs i y) refl
@@ -33,10 +33,10 @@ pub still_numbered : (index : List (Named ℕ)) (structs : List Structure) (i : 
 still_numbered index structs i old new members within read is numbered tag =
     numbered tag
     ∙ sym (ap (λ (es : List StructEntry). struct_number es tag) (map-set struct_entry_view structs i new)
-        ∙ position_set (λ (e : StructEntry). e.tagged && bytes_eq e.tag tag) (map struct_entry_view structs) i (struct_entry_view new) (struct_entry_view old)
-            (ap (λ (e : StructEntry). e.tagged && bytes_eq e.tag tag) is
-            ∙ ap (λ (s : Structure). s.tagged && bytes_eq s.tag tag) read
-            ∙ sym (ap (λ (e : StructEntry). e.tagged && bytes_eq e.tag tag) (get_or-map struct_entry_view structs i old (struct_entry_view old) within))))
+    ∙ position_set (λ (e : StructEntry). e.tagged && bytes_eq e.tag tag) (map struct_entry_view structs) i (struct_entry_view new) (struct_entry_view old)
+    (ap (λ (e : StructEntry). e.tagged && bytes_eq e.tag tag) is
+    ∙ ap (λ (s : Structure). s.tagged && bytes_eq s.tag tag) read
+    ∙ sym (ap (λ (e : StructEntry). e.tagged && bytes_eq e.tag tag) (get_or-map struct_entry_view structs i old (struct_entry_view old) within))))
 
 -- ---- contents
 

@@ -134,7 +134,7 @@ pub still_declared : (count : ℕ) (entries all : List Entry) (e : Entry) → co
     → count ≡ functions_declared (map function_entry_view all)
 still_declared count entries all e is pushed none =
     let one : functions_declared (map function_entry_view entries ++ function_entry_view e ∷ []) ≡ functions_declared (map function_entry_view entries) + one_if (is_some (function_entry_view e).interface) =
-        sum_by_push (λ (x : FunctionEntry). cond (is_some x.interface) 1 0) (map function_entry_view entries) (function_entry_view e) in
+    sum_by_push (λ (x : FunctionEntry). cond (is_some x.interface) 1 0) (map function_entry_view entries) (function_entry_view e) in
     let no_more : one_if (is_some (function_entry_view e).interface) ≡ 0 = none_more e.interface none in
     let whole : functions_declared (map function_entry_view all) ≡ functions_declared (map function_entry_view entries ++ function_entry_view e ∷ []) = ap functions_declared (functions_pushed entries all e pushed) in
     omega (arith, is, one, no_more, whole)

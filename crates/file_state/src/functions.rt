@@ -9,11 +9,11 @@ ghost use Rattle.typing_base.specs.Views.{entity_view};
 ghost use Rattle.file_state.specs.Indexes.{IsIndexed};
 ghost use Rattle.file_state.specs.Views.{file_state_view, interface_view};
 
+use crate::comparisons::{same_results, same_types};
 use crate::copies::copied_types;
 use crate::entries::{FunctionEntry, Interface};
 use crate::names::{declared_twice, with_name};
 use crate::numbers::number_first;
-use crate::comparisons::{same_results, same_types};
 use crate::states::FileState;
 use c_syntax::Word;
 use rvt_tree::Name;
@@ -97,11 +97,7 @@ pub fn unless_unlike(
 
 /// One more function, which is not declared; its number.
 #[tactic(auto, using(crate::proofs::Numbered::functions_pushed, crate::proofs::Numbered::function_numbered, crate::proofs::Numbered::still_declared))]
-pub fn add_function(
-    alloc: Global,
-    state: &mut FileState,
-    name: &[u8],
-) -> Result<u32, AllocError>
+pub fn add_function(alloc: Global, state: &mut FileState, name: &[u8]) -> Result<u32, AllocError>
     requires indexed { IsIndexed state.old }
     ensures number { IfOk result (λ number. number ≡ length (file_state_view state.old).functions) }
     ensures added { OnOk result (file_state_view state.new ≡ with_functions ((file_state_view state.old).functions ++ undeclared name.now ∷ []) (file_state_view state.old)) }

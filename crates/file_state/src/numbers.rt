@@ -7,11 +7,7 @@ use name_scopes::Scopes;
 use std::alloc::AllocError;
 
 /// The name gets the number, if it has none.
-pub fn number_first(
-    numbers: &mut Scopes<u32>,
-    name: &[u8],
-    number: u32,
-) -> Result<(), AllocError>
+pub fn number_first(numbers: &mut Scopes<u32>, name: &[u8], number: u32) -> Result<(), AllocError>
     ensures { OnOk result (numbers.new ≡ with_first name.now number numbers.old) }
 {
     match numbers.look_up(name) {

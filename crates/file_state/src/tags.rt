@@ -17,9 +17,7 @@ use crate::states::FileState;
 use c_syntax::Word;
 use rvt_tree::{CType, Name};
 use std::alloc::{AllocError, Global};
-use typing_base::{
-    Fault, NamedType, QualifiedType, Scope, Structure, Tagged, wrong_type,
-};
+use typing_base::{Fault, NamedType, QualifiedType, Scope, Structure, Tagged, wrong_type};
 
 /// One more tag.
 pub fn with_tag(state: &mut FileState, tag: &Name, tagged: Tagged) -> Result<(), AllocError>
@@ -32,11 +30,7 @@ pub fn with_tag(state: &mut FileState, tag: &Name, tagged: Tagged) -> Result<(),
 }
 
 /// A struct of this number is named by its tag.
-pub fn tagged_with(
-    state: &mut FileState,
-    tag: &Option<Word>,
-    number: u32,
-) -> Result<(), AllocError>
+pub fn tagged_with(state: &mut FileState, tag: &Option<Word>, number: u32) -> Result<(), AllocError>
     requires indexed { IsIndexed state.old }
     ensures tagged { OnOk result (file_state_view state.new ≡ tagged_with tag.now number (file_state_view state.old)) }
     ensures indexed { OnOk result (IsIndexed state.new) }
