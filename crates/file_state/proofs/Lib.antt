@@ -1,0 +1,6 @@
+mod Completed
+mod Integers
+mod Numbered
+mod OutlineSteps
+mod Parts
+mod ScopeNames
