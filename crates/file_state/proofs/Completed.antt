@@ -1,13 +1,13 @@
 -- A struct gets its body.
-use Rattle.std.proofs.Common.{◌≡◌, ℕ, zero, suc, ◌-◌, ◌++◌, append_assoc, List, [], ◌∷◌, map, length, get_or, ◌<◌, ◌≤◌, set, slice_get, Option, Some, None, option_map, ◌&&◌, Bool, nat_lt, cond, refl, ap, sym, ◌∙◌, subst, arith}
-use Rattle.std.specs.Prelude.{position, slice_set}
-use Rattle.std.specs.List.{position_or_len, repeat}
+use Rattle.std.proofs.Common.{◌≡◌, ℕ, zero, suc, ◌-◌, ◌++◌, append_assoc, List, [], ◌∷◌, map, length, get_or, ◌<◌, set, slice_get, Option, Some, None, option_map, ◌&&◌, Bool, refl, ap, sym, ◌∙◌, arith}
+use Rattle.std.specs.Prelude.{position}
+use Rattle.std.specs.List.{repeat}
 use Rattle.std.specs.Str.{bytes_eq}
-use Rattle.std.proofs.lemmas.List.{map-set, length-set, length-map, get_or-map}
+use Rattle.std.proofs.lemmas.List.{map-set, length-set, get_or-map}
 use Rattle.std.proofs.lemmas.List.Folds.{position_or_len-set}
 use Rattle.std.proofs.lemmas.Option.{slice_get-map, slice_get-get_or}
 use Rattle.rvt_num.specs.declared.kinds.Kind.{Kind}
-use Rattle.name_scopes.specs.Names.{Named, named_in}
+use Rattle.name_scopes.specs.Names.{Named}
 use Rattle.typing_base.specs.declared.structures.Structure.{Structure}
 use Rattle.file_typing.specs.FileScope.{StructEntry, struct_number}
 use Rattle.file_typing.specs.Structs as s

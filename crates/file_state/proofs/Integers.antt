@@ -1,9 +1,8 @@
 -- A number of a kind stays as it is.
-use Rattle.std.proofs.Common.{◌≡◌, ℕ, ◌<◌, ◌-◌, ◌%◌, ◌^◌, nat_lt, true, false, refl, arith}
+use Rattle.std.proofs.Common.{◌≡◌, ◌<◌, ◌-◌, ◌%◌, nat_lt, true, false, refl, arith}
 use Rattle.std.specs.Prelude.{ℤ, pos, negsuc, ◌≤ℤ◌}
 use Rattle.std.proofs.lemmas.Int.{ints}
 use Rattle.rvt_num.specs.Kinds.{IsOf}
-use Rattle.rvt_num.specs.Number.{Number}
 use Rattle.rvt_num.specs.Wrapping.{wrapped}
 use Rattle.rvt_num.specs.declared.kinds.Kind.TheVariants.{I32}
 

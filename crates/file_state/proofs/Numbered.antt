@@ -1,7 +1,7 @@
 -- The numbers of structs and functions, as one more comes.
 use Rattle.std.proofs.Common.{◌≡◌, ℕ, suc, ◌+◌, List, [], ◌∷◌, ◌++◌, map, length, Bool, true, false, cond, Option, Some, None, option_map, is_some, nat_lt, refl, ap, sym, ◌∙◌, subst, arith}
 use Rattle.std.specs.Prelude.{position, if◌then◌else◌, ◌&&◌, not}
-use Rattle.std.specs.List.{position_or_len, prefix_len}
+use Rattle.std.specs.List.{position_or_len}
 use Rattle.std.specs.Str.{bytes_eq}
 use Rattle.std.proofs.lemmas.List.{map-append, length-map}
 use Rattle.std.proofs.lemmas.List.Sums.{sum_by_push}

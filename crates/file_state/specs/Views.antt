@@ -1,7 +1,6 @@
 -- What the values of a file's state stand for.
-use Rattle.std.specs.Prelude.{List, map, option_map}
+use Rattle.std.specs.Prelude.{map, option_map}
 use Rattle.rvt_tree.specs.Views.{stmt_view}
-use Rattle.expression_typing.specs.Entities.{Binding}
 use Rattle.file_typing.specs.FileScope as f
 use Rattle.file_typing.specs.Structs as s
 use Rattle.file_typing.specs.Programs.{object_view}

@@ -1,5 +1,5 @@
 -- A rule that is broken by a step whose result was kept.
-use Rattle.std.proofs.Common.{◌≡◌, Result, Ok, Err, subst, sym}
+use Rattle.std.proofs.Common.{◌≡◌, Result, Err, subst}
 use Rattle.rvt_tree.specs.declared.places.Place.{Place}
 use Rattle.expression_typing.specs.Outcomes.{Cause, Checking, broken}
 use Rattle.typing_base.specs.declared.faults.Fault.{Fault}
