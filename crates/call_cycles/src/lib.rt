@@ -1,0 +1,17 @@
+//! What is sought at the end of a file: calls of functions without a body, and addresses of locals in functions on a
+//! call cycle.
+#![tactic(auto)]
+
+mod addresses;
+mod bodies;
+mod cycles;
+mod notes;
+mod orders;
+#[cfg(test)]
+mod tests;
+
+pub use addresses::address_on_cycle;
+pub use bodies::missing_body;
+pub use call_graph::Memory;
+pub use cycles::on_cycle;
+pub use notes::FunctionNotes;

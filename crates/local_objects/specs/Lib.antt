@@ -1,0 +1,2 @@
+pub mod ObjectTables
+pub mod TurnedLists

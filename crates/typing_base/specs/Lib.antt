@@ -1,0 +1,3 @@
+pub mod NoteViews
+pub mod Views
+pub mod Follows
