@@ -9,14 +9,14 @@ ghost use Rattle.refutation_check.specs.Runs.{IsRootRun};
 use crate::fault::{LogFault, NOTHING_NEW, OTHER_LENGTH, PROPAGATION_REFUTES};
 use crate::halves::is_new_among;
 use crate::lines::fault_of_line;
-use crate::orders::{hint_of, order_of};
+use crate::orders::{hint_of, order_of, use_at, uses_of};
 use crate::places::Places;
 use crate::tries::take_back;
 use clause_db::{Clauses, Log, LogLine, Memory, Replay, largest_variable};
 use std::alloc::Global;
 use unit_propagation::{Trail, Watches};
 
-/// Does the result of a line tell propagation something new?
+/// Does the result of a line tell propagation something new? The literal of one variable is left out first.
 fn strengthens(
     alloc: Global,
     clauses: &Clauses,
@@ -24,6 +24,7 @@ fn strengthens(
     trail: &mut Trail,
     watches: &mut Watches,
     line: &LogLine,
+    last: u64,
 ) -> Result<bool, Memory>
     requires fits { All (λ l. variable_of l < length trail.old.places.items) line.now.result.literals.items }
     requires run { IsRootRun (literal_lists clauses.now.list.items ++ results before.now) trail.old watches.old }
@@ -38,7 +39,7 @@ fn strengthens(
         Some(_) => return Ok(false),
         None => {}
     }
-    let order = order_of(alloc, &line.result, hint_of(clauses, before, line))?;
+    let order = order_of(alloc, &line.result, hint_of(clauses, before, line), last)?;
     let all = Places {
         from: 0,
         to: order.literals.len(),
@@ -70,6 +71,7 @@ fn budget_fault_of_line(
     trail: &mut Trail,
     watches: &mut Watches,
     line: &LogLine,
+    last: u64,
 ) -> Result<Option<u16>, Memory>
     requires { IsRootRun (literal_lists clauses.now.list.items ++ results before.now) trail.old watches.old }
     ensures run { IfOk result (λ _. IsRootRun (literal_lists clauses.now.list.items ++ results before.now) trail.new watches.new) }
@@ -81,7 +83,7 @@ fn budget_fault_of_line(
         Some(cause) => return Ok(Some(cause)),
         None => {}
     }
-    if strengthens(alloc, clauses, before, trail, watches, line)? {
+    if strengthens(alloc, clauses, before, trail, watches, line, last)? {
         Ok(None)
     } else {
         Ok(Some(NOTHING_NEW))
@@ -125,6 +127,10 @@ pub fn check_budget(alloc: Global, clauses: &Clauses, log: &Log, limit: u32) -> 
     if refuted {
         return Err(LogFault::Line(0, PROPAGATION_REFUTES));
     }
+    let uses = match uses_of(alloc, clauses, &log.lines) {
+        Ok(uses) => uses,
+        Err(_) => return Err(LogFault::Memory),
+    };
     let mut replay = Replay::new(alloc);
     for index in 0..total {
         match budget_fault_of_line(
@@ -135,6 +141,7 @@ pub fn check_budget(alloc: Global, clauses: &Clauses, log: &Log, limit: u32) -> 
             &mut trail,
             &mut watches,
             &log.lines[index],
+            use_at(&uses, index),
         ) {
             Err(_) => return Err(LogFault::Memory),
             Ok(Some(cause)) => return Err(LogFault::Line(index as u64 + 1, cause)),

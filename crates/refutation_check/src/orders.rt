@@ -1,4 +1,4 @@
-ghost use Rattle.std.specs.Prelude.{◌≡◌, ◌<◌, length, IfOk};
+ghost use Rattle.std.specs.Prelude.{◌≡◌, ◌<◌, length, IfOk, IfSome};
 ghost use Rattle.clause_db.specs.Literal.{AreInRange};
 ghost use Rattle.refutation_check.specs.Distinct.{AreDistinct, HaveSameLiterals};
 
@@ -53,8 +53,20 @@ fn has(clause: &Clause, literal: i64) -> bool {
     from < clause.literals.len() && clause.literals[from] == literal
 }
 
-/// The literals of a clause, and at the end those that a hint has as well.
-pub fn order_of(alloc: Global, clause: &Clause, hint: &Clause) -> Result<Order, Memory>
+/// The place of a variable's literal.
+fn place_of(order: &Order, v: u64) -> Option<usize>
+    ensures { IfSome result (λ place. place < length order.now.literals.items) }
+{
+    for place in 0..order.literals.len() {
+        if variable(order.literals[place]) == v {
+            return Some(place);
+        }
+    }
+    None
+}
+
+/// The literals of a clause, behind them those that a hint has as well, and at the end the one of a variable.
+pub fn order_of(alloc: Global, clause: &Clause, hint: &Clause, last: u64) -> Result<Order, Memory>
     ensures { IfOk result (λ order. HaveSameLiterals clause.now.literals.items order.literals.items) }
 {
     let mut order = Order::as_in(alloc, clause)?;
@@ -68,7 +80,40 @@ pub fn order_of(alloc: Global, clause: &Clause, hint: &Clause) -> Result<Order, 
         end -= 1;
         order.swap(place, end);
     }
+    let Some(place) = place_of(&order, last) else {
+        return Ok(order);
+    };
+    let latest = order.literals.len() - 1;
+    order.swap(place, latest);
     Ok(order)
+}
+
+/// Notes the variables on which a line resolves with lines above it.
+fn note_uses(uses: &mut [u64], before: usize, line: &LogLine) {
+    for pivot in &line.pivots {
+        let number = pivot.1 as usize;
+        if number > before && number - before <= uses.len() && uses[number - before - 1] == 0 {
+            uses[number - before - 1] = pivot.0;
+        }
+    }
+}
+
+/// By line, the variable on which a later line first resolves with it, or 0. What a search has learnt is at once
+/// the reason of the literal at which it tells propagation something new.
+pub fn uses_of(alloc: Global, clauses: &Clauses, lines: &[LogLine]) -> Result<Vec<u64>, Memory> {
+    let mut uses = match vec![in alloc; 0; lines.len()] {
+        Ok(uses) => uses,
+        Err(_) => return Err(Memory),
+    };
+    for line in lines {
+        note_uses(&mut uses, clauses.list.len(), line);
+    }
+    Ok(uses)
+}
+
+/// What is noted for a line.
+pub fn use_at(uses: &Vec<u64>, line: usize) -> u64 {
+    if line < uses.len() { uses[line] } else { 0 }
 }
 
 /// The clause of a line's last resolution, or else its result. A clause that a search has learnt from a conflict

@@ -1,4 +1,5 @@
 // Searches an assignment for clauses that are written one a line, with a limit of conflicts on the first line.
+// With any argument the log of the search is not checked.
 #![tactic(auto)]
 
 ghost use Rattle.std.specs.Prelude.{◌<◌};
@@ -7,7 +8,8 @@ use clause_db::{Clause, Clauses, is_clause, largest_variable};
 use refutation_check::{check_budget, check_log};
 use sat_search::{Found, search};
 use std::alloc::{AllocError, Global};
-use std::io;
+use std::rt::Env;
+use std::{env, io};
 
 /// The numbers of a line, or `None` where a word of it is no number.
 fn numbers_of(alloc: Global, line: &str) -> Result<Option<Vec<i64>>, AllocError> {
@@ -38,6 +40,23 @@ fn limit_of(line: &str) -> Option<u32> {
     match line.parse::<u32>() {
         Ok(limit) if limit > 0 && limit <= 1_000_000_000 => Some(limit),
         _ => None,
+    }
+}
+
+/// Is an argument given?
+fn has_argument<R: Env + AllocGlobal>(rt: &R) -> bool {
+    match env::args(rt) {
+        Ok(args) => args.count() > 1,
+        Err(_) => false,
+    }
+}
+
+/// Says what a search came to.
+fn tell(rt: &impl Print, found: &Found) -> io::Result<()> {
+    match found {
+        Found::Satisfied(_, conflicts) => println!(rt; "satisfied {conflicts}"),
+        Found::Refuted(log) => println!(rt; "refuted {}", log.lines.len()),
+        Found::Budget(log) => println!(rt; "budget {}", log.lines.len()),
     }
 }
 
@@ -86,5 +105,11 @@ fn main(rt: HostRuntime) -> io::Result<()> {
     }
     let variables = largest_variable(&list);
     let clauses = Clauses { list, variables };
-    report(&rt, alloc, &clauses, limit)
+    if !has_argument(&rt) {
+        return report(&rt, alloc, &clauses, limit);
+    }
+    match search(alloc, &clauses, limit) {
+        Ok(found) => tell(&rt, &found),
+        Err(_) => println!(rt; "no memory"),
+    }
 }

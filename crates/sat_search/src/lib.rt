@@ -6,6 +6,7 @@ mod decisions;
 mod found;
 mod learning;
 mod restarts;
+mod shortening;
 mod solver;
 
 pub use found::Found;

@@ -1,5 +1,5 @@
 -- Literals that come onto a trail and leave it.
-use Rattle.std.proofs.Common.{◌≡◌, ◌≢◌, inl, inr, ℕ, ℤ, pos, ◌<◌, ◌≤◌, ◌+◌, ◌-◌, List, [], ◌∷◌, ◌++◌, length, slice_index, set, sym, ap, ◌∙◌, arith, subst, length-append, min, sum_by}
+use Rattle.std.proofs.Common.{◌≡◌, ◌≢◌, inl, inr, ℕ, ℤ, pos, ◌<◌, ◌≤◌, ◌+◌, ◌-◌, List, [], ◌∷◌, ◌++◌, length, slice_index, slice_index_or, set, refl, sym, ap, ◌∙◌, arith, subst, length-append, min, sum_by}
 use Rattle.std.specs.Prelude.{Contains}
 use Rattle.std.proofs.Math.ListN.{length-set}
 use Rattle.std.proofs.lemmas.Bool.{cases_lt, cases_eq}
@@ -8,7 +8,7 @@ use Rattle.std.proofs.lemmas.List.{get_or_append_left, get_or-set_other, get_or-
 use Rattle.std.proofs.lemmas.List.Sums.{sum_by-set, sum_by-cons}
 use Rattle.clause_db.specs.Literal.{variable_of, opposite}
 use Rattle.clause_db.proofs.Ordered.{same_or_opposite, contains_at}
-use Rattle.unit_propagation.specs.Places.{literal_at, PlacesAreRight}
+use Rattle.unit_propagation.specs.Places.{literal_at, PlacesAreRight, ValuesAreRight}
 use Rattle.unit_propagation.specs.Truth.{IsFree}
 
 -- where the trail has another literal of the variable, the literal is false
@@ -104,6 +104,85 @@ places_pop trail places l right = record { of_literal = literals; of_variable = 
 
   count : sum_by (min 1) (set places (variable_of l) 0) ≡ length trail
   count = omega (arith, length_more trail l, right.counted, sum_by-set (min 1) places (variable_of l) 0 0 last.1, last.2)
+
+-- what the table of values says of a literal
+module _ (trail : List ℤ) (places : List ℕ) (values : List ℤ) (right : PlacesAreRight trail places) (values_right : ValuesAreRight trail places values) (l m : ℤ) (within : variable_of l < length places) (is : m ≡ slice_index_or values (variable_of l) (pos 0)) where
+  -- a variable with a literal has a place
+  has_place : m ≢ pos 0 → 0 < slice_index places (variable_of l)
+  has_place some = elim (cases_lt 0 (slice_index places (variable_of l))) [
+    | inl h ↦ h
+    | inr h ↦ absurd (some (is ∙ values_right.of_free (variable_of l) within (omega arith)))
+  ]
+
+  -- another literal of the variable is true
+  pub false_by_value : m ≢ pos 0 → m ≢ l → Contains trail (opposite l)
+  false_by_value some differ =
+      false_by_place trail places right l (slice_index places (variable_of l)) m within refl (has_place some) (is ∙ values_right.of_known (variable_of l) within (has_place some)) differ
+
+-- the values after a push
+pub values_push : (trail : List ℤ) (places : List ℕ) (values : List ℤ) → PlacesAreRight trail places → ValuesAreRight trail places values → length values ≡ length places → (l : ℤ) → variable_of l < length places → ValuesAreRight (trail ++ l ∷ []) (set places (variable_of l) (length trail + 1)) (set values (variable_of l) l)
+values_push trail places values right values_right same l within = record { of_free = frees; of_known = knowns } where
+  place_new : slice_index (set places (variable_of l) (length trail + 1)) (variable_of l) ≡ length trail + 1
+  place_new = get_or-set_same places (variable_of l) (length trail + 1) 0 within
+
+  place_other : (v : ℕ) → v ≢ variable_of l → slice_index (set places (variable_of l) (length trail + 1)) v ≡ slice_index places v
+  place_other v ne = get_or-set_other places (variable_of l) v (length trail + 1) 0 ne
+
+  value_new : slice_index_or (set values (variable_of l) l) (variable_of l) (pos 0) ≡ l
+  value_new = get_or-set_same values (variable_of l) l (pos 0) (omega (arith, within, same))
+
+  value_other : (v : ℕ) → v ≢ variable_of l → slice_index_or (set values (variable_of l) l) v (pos 0) ≡ slice_index_or values v (pos 0)
+  value_other v ne = get_or-set_other values (variable_of l) v l (pos 0) ne
+
+  frees : (v : ℕ) → v < length (set places (variable_of l) (length trail + 1)) → slice_index (set places (variable_of l) (length trail + 1)) v ≡ 0 → slice_index_or (set values (variable_of l) l) v (pos 0) ≡ pos 0
+  frees v h none = elim (cases_eq v (variable_of l)) [
+    | inl e ↦ absurd (let n = ap (slice_index (set places (variable_of l) (length trail + 1))) e ∙ place_new in omega (arith, n, none))
+    | inr ne ↦ value_other v ne ∙ values_right.of_free v (rw length-set at h) (sym (place_other v ne) ∙ none)
+  ]
+
+  knowns : (v : ℕ) → v < length (set places (variable_of l) (length trail + 1)) → 0 < slice_index (set places (variable_of l) (length trail + 1)) v → slice_index_or (set values (variable_of l) l) v (pos 0) ≡ literal_at (trail ++ l ∷ []) (slice_index (set places (variable_of l) (length trail + 1)) v - 1)
+  knowns v h above = elim (cases_eq v (variable_of l)) [
+    | inl e ↦ rw (e, place_new, value_new) (sym (ap (literal_at (trail ++ l ∷ [])) (let back : length trail + 1 - 1 ≡ length trail = omega arith in back) ∙ literal_at-push_new trail l))
+    | inr ne ↦
+        let some : 0 < slice_index places v = rw (place_other v ne) at above in
+        let w = right.of_variable v (rw length-set at h) some in
+        rw (place_other v ne, value_other v ne) (values_right.of_known v (rw length-set at h) some ∙ sym (literal_at-push_old trail l (slice_index places v - 1) (omega (arith, w.0, some))))
+  ]
+
+-- the values after a pop
+pub values_pop : (trail : List ℤ) (places : List ℕ) (values : List ℤ) (l : ℤ) → PlacesAreRight (trail ++ l ∷ []) places → ValuesAreRight (trail ++ l ∷ []) places values → length values ≡ length places → ValuesAreRight trail (set places (variable_of l) 0) (set values (variable_of l) (pos 0))
+values_pop trail places values l right values_right same = record { of_free = frees; of_known = knowns } where
+  last : (0 < variable_of l) × (variable_of l < length places) × (slice_index places (variable_of l) ≡ length trail + 1)
+  last = rw literal_at-push_new at (right.of_literal (length trail) (omega (arith, length_more trail l)))
+
+  place_new : slice_index (set places (variable_of l) 0) (variable_of l) ≡ 0
+  place_new = get_or-set_same places (variable_of l) 0 0 last.1
+
+  place_other : (v : ℕ) → v ≢ variable_of l → slice_index (set places (variable_of l) 0) v ≡ slice_index places v
+  place_other v ne = get_or-set_other places (variable_of l) v 0 0 ne
+
+  value_new : slice_index_or (set values (variable_of l) (pos 0)) (variable_of l) (pos 0) ≡ pos 0
+  value_new = get_or-set_same values (variable_of l) (pos 0) (pos 0) (omega (arith, last.1, same))
+
+  value_other : (v : ℕ) → v ≢ variable_of l → slice_index_or (set values (variable_of l) (pos 0)) v (pos 0) ≡ slice_index_or values v (pos 0)
+  value_other v ne = get_or-set_other values (variable_of l) v (pos 0) (pos 0) ne
+
+  frees : (v : ℕ) → v < length (set places (variable_of l) 0) → slice_index (set places (variable_of l) 0) v ≡ 0 → slice_index_or (set values (variable_of l) (pos 0)) v (pos 0) ≡ pos 0
+  frees v h none = elim (cases_eq v (variable_of l)) [
+    | inl e ↦ ap (λ k. slice_index_or (set values (variable_of l) (pos 0)) k (pos 0)) e ∙ value_new
+    | inr ne ↦ value_other v ne ∙ values_right.of_free v (rw length-set at h) (sym (place_other v ne) ∙ none)
+  ]
+
+  knowns : (v : ℕ) → v < length (set places (variable_of l) 0) → 0 < slice_index (set places (variable_of l) 0) v → slice_index_or (set values (variable_of l) (pos 0)) v (pos 0) ≡ literal_at trail (slice_index (set places (variable_of l) 0) v - 1)
+  knowns v h above = elim (cases_eq v (variable_of l)) [
+    | inl e ↦ absurd (let n = ap (slice_index (set places (variable_of l) 0)) e ∙ place_new in omega (arith, n, above))
+    | inr ne ↦
+        let some : 0 < slice_index places v = rw (place_other v ne) at above in
+        let w = right.of_variable v (rw length-set at h) some in
+        let not_last : slice_index places v ≢ length trail + 1 = λ e. ne (sym w.1 ∙ ap (λ k. variable_of (literal_at (trail ++ l ∷ []) (k - 1))) e ∙ ap (λ k. variable_of (literal_at (trail ++ l ∷ []) k)) (let back : length trail + 1 - 1 ≡ length trail = omega arith in back) ∙ ap variable_of (literal_at-push_new trail l)) in
+        let low : slice_index places v ≤ length trail = omega (arith, w.0, not_last, length_more trail l) in
+        rw (place_other v ne, value_other v ne) (values_right.of_known v (rw length-set at h) some ∙ literal_at-push_old trail l (slice_index places v - 1) (omega (arith, low, some)))
+  ]
 
 -- there is a place for each literal
 pub trail_fits : (trail : List ℤ) (places : List ℕ) → PlacesAreRight trail places → length trail ≤ length places

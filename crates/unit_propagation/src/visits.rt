@@ -8,7 +8,7 @@ ghost use Rattle.unit_propagation.specs.Visiting.{IsReplacement, IsLookBeside, I
 
 use crate::trail::{Trail, Value};
 use crate::watches::{Watched, Watches, code, enter, entry, leave};
-use clause_db::{Clauses, LogLine, Memory, clause_at};
+use clause_db::{Clause, Clauses, LogLine, Memory, clause_at};
 
 /// What is to be done about a clause where a literal that it watches became false.
 #[derive(Clone, Copy, Debug, PartialEq, Eq)]
@@ -40,30 +40,38 @@ fn replacement(clause: &[i64], trail: &Trail, other: i64) -> Option<i64>
     None
 }
 
+/// The same for a clause, which is read only here: most often its other watched literal is true.
+fn replacement_in(clause: &Clause, trail: &Trail, other: i64) -> Option<i64>
+    requires { All (λ l. variable_of l < length trail.now.places.items) clause.now.literals.items }
+    ensures { IsReplacement trail.now.literals.items clause.now.literals.items other result }
+{
+    replacement(&clause.literals, trail, other)
+}
+
 /// What is to be done about a clause of which this is the other watched literal.
-fn look_beside(clause: &[i64], trail: &Trail, other: i64) -> Look
-    requires fits { All (λ l. variable_of l < length trail.now.places.items) clause.now }
-    requires stands { Contains clause.now other }
-    ensures { IsLookBeside trail.now.literals.items clause.now other result }
+fn look_beside(clause: &Clause, trail: &Trail, other: i64) -> Look
+    requires fits { All (λ l. variable_of l < length trail.now.places.items) clause.now.literals.items }
+    requires stands { Contains clause.now.literals.items other }
+    ensures { IsLookBeside trail.now.literals.items clause.now.literals.items other result }
 {
     match trail.value(other) {
         Value::True => Look::Keeps,
-        Value::False => match replacement(clause, trail, other) {
+        Value::False => match replacement_in(clause, trail, other) {
             Some(next) => Look::Moves(other, next),
             None => Look::Falsified,
         },
-        Value::Free => match replacement(clause, trail, other) {
+        Value::Free => match replacement_in(clause, trail, other) {
             Some(next) => Look::Moves(other, next),
             None => Look::Forces(other),
         },
     }
 }
 
-fn look_by(clause: &[i64], trail: &Trail, watched: Watched, falsified: i64) -> Look
-    requires fits { All (λ l. variable_of l < length trail.now.places.items) clause.now }
-    requires has_first { Contains clause.now watched.first }
-    requires has_second { Contains clause.now watched.second }
-    ensures { IsLook trail.now.literals.items clause.now watched falsified result }
+fn look_by(clause: &Clause, trail: &Trail, watched: Watched, falsified: i64) -> Look
+    requires fits { All (λ l. variable_of l < length trail.now.places.items) clause.now.literals.items }
+    requires has_first { Contains clause.now.literals.items watched.first }
+    requires has_second { Contains clause.now.literals.items watched.second }
+    ensures { IsLook trail.now.literals.items clause.now.literals.items watched falsified result }
 {
     if watched.first == falsified {
         return look_beside(clause, trail, watched.second);
@@ -93,7 +101,7 @@ fn look_at(
         None => Look::Keeps,
         Some(watched) => match clause_at(clauses, lines, index as u64 + 1) {
             None => Look::Keeps,
-            Some(clause) => look_by(&clause.literals, trail, watched, falsified),
+            Some(clause) => look_by(clause, trail, watched, falsified),
         },
     }
 }

@@ -1,4 +1,4 @@
-use Rattle.std.proofs.Common.{arith, ◌<◌, ℕ, length, sym, refl, subst}
+use Rattle.std.proofs.Common.{arith, ◌<◌, ℕ, length}
 use Rattle.unit_propagation.specs.Watching.{entries}
 use Rattle.unit_propagation.proofs.Reasons.{reasons_taken_back}
 use Rattle.unit_propagation.proofs.Watchings.{watched_cut}

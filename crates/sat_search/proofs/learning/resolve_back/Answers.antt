@@ -7,8 +7,8 @@ use Rattle.unit_propagation.specs.Quiet.{IsFalseClause}
 use Rattle.sat_search.specs.Latest.{IsLatest}
 use Rattle.sat_search.proofs.Chain.{resolves_push, learnt_strengthens}
 use Rattle.sat_search.proofs.Levels.{fits_false, none_later_all, has_last_literal, reason_of_last, second_stays, empty_at_zero, behind_quiet}
-use Rattle.sat_search.proofs.learning.learn.Goals as goal
-use Rattle.sat_search.proofs.learning.learn.Goals.{then-resolutions-test+else-latest-bound, else-resolutions-test}
+use Rattle.sat_search.proofs.learning.resolve_back.Goals as goal
+use Rattle.sat_search.proofs.learning.resolve_back.Goals.{then-resolutions-test+else-latest-bound, else-resolutions-test}
 use Rattle.std.proofs.lemmas.Bool.{cases_lt}
 use Rattle.clause_db.specs.Numbered.{IsNumbered}
 
