@@ -4,10 +4,11 @@ use Rattle.rvt_num.specs.Number.{Number}
 use Rattle.rvt_num.specs.declared.values.Value.{Value}
 use Rattle.rvt_tree.specs.declared.programs.Program.{Program}
 use Rattle.c_meaning.specs.Outcomes.{State, state, Outcome, Done, Returning, Trapped, Cut, Deep, Doing, Manner, Normally, Broke, Continued, give, go_on, and_then, cut}
-use Rattle.c_meaning.specs.Statements.{after_round}
+use Rattle.rvt_tree.specs.Syntax.{Expression, Action, Statement}
+use Rattle.c_meaning.specs.Statements.{after_round, after_body, test_of, meaning, acts}
 use Rattle.c_meaning.specs.Runs.{called, turn, spend, turns, nested, calls, running, stepping}
-use Rattle.c_meaning.proofs.Tracks.{Order, Grown, IsGood, Matched, Tracks, Follow, further, tracks_turn, tracks_deep}
-use Rattle.c_meaning.proofs.Follows.{tracks_called}
+use Rattle.c_meaning.proofs.Tracks.{Order, Grown, IsGood, Matched, Tracks, Follow, further, tracks_then, tracks_turn, tracks_deep}
+use Rattle.c_meaning.proofs.Follows.{tracks_called, tracks_test, tracks_meaning, tracks_acts, tracks_after_body}
 
 -- the two sides have the same number of steps left, which is at most n
 abbrev pub level : ℕ → Order ℕ ℕ
@@ -231,3 +232,24 @@ pub loop_unfolds : (program : Program) (d number : ℕ) (first : Bool) (test : D
 loop_unfolds program d number first test round locals store x t u =
     turn_same first test round (turns x first test round) ((stepping program d).loop number first test round) t u locals store x
     (λ l s y less. turns_enough x (suc y) first test round t u l s y less (omega arith))
+
+-- ---- the parts of loop statements
+
+-- what does the same as a part that is counted out leaves no more steps than there were
+spends_alike : {A : Type 0} (m : ℕ → Doing ℕ A) (m' : Doing ℕ A) → ((n : ℕ) → Tracks (level n) (m n) m') → Spends m'
+spends_alike m m' t locals store x =
+    let e = one_outcome x (m x (state locals store x)) (m' (state locals store x)) ((t x).follows locals store x x (refl, omega arith) (all_good x _)) in
+    subst (λ r. Grown (level 0) x r) (sym e) ((t x).grows locals store x)
+
+module _ (program : Program) (d : ℕ) where
+  pub test_spends : (test : Option Expression) → Spends (test_of program (stepping program d) test)
+  test_spends test = spends_alike (λ n. test_of program (running program n d) test) _ (λ n. tracks_test (level n) program _ _ (running_stepping program n d) test)
+
+  pub body_spends : (body : Statement) → Spends (meaning program (stepping program d) body)
+  body_spends body = spends_alike (λ n. meaning program (running program n d) body) _ (λ n. tracks_meaning (level n) program _ _ (running_stepping program n d) body)
+
+  pub round_spends : (body : Statement) (last : List Action) → Spends (and_then (meaning program (stepping program d) body) (after_body (acts program (stepping program d) last)))
+  round_spends body last =
+      spends_alike (λ n. and_then (meaning program (running program n d) body) (after_body (acts program (running program n d) last))) _ (λ n.
+      tracks_then (level n) _ _ _ _ (tracks_meaning (level n) program _ _ (running_stepping program n d) body)
+      (tracks_after_body (level n) program _ _ (running_stepping program n d) _ _ (tracks_acts (level n) program _ _ (running_stepping program n d) last)))

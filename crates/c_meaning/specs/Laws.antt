@@ -3,12 +3,14 @@ use Rattle.std.specs.Prelude.{◌≡◌, ℕ, suc, ◌+◌, ◌<◌, ◌≤◌, 
 use Rattle.rvt_num.specs.Number.{Number}
 use Rattle.rvt_tree.specs.declared.pairings.Pairing.{Pairing}
 use Rattle.rvt_tree.specs.Same.{ArePaired}
+use Rattle.rvt_tree.specs.Syntax.{Expression, Action, Statement}
 use Rattle.rvt_num.specs.declared.values.Value.{Value}
 use Rattle.rvt_tree.specs.declared.programs.Program.{Program}
-use Rattle.c_meaning.specs.Outcomes.{state, Outcome, Done, Returning, Trapped, Cut, Deep, Doing, Manner}
+use Rattle.c_meaning.specs.Outcomes.{state, Outcome, Done, Returning, Trapped, Cut, Deep, Doing, Manner, and_then}
 use Rattle.c_meaning.specs.Runs.{End, Ended, run, running, stepping, called, turn, spend}
 use Rattle.c_meaning.specs.Tables.{Directory, Entry, Made, call_key, loop_key, under_table}
 use Rattle.c_meaning.specs.Loops.{loop_of, turned, turned_in_run}
+use Rattle.c_meaning.specs.Statements.{test_of, meaning, acts, after_body}
 use Rattle.c_meaning.specs.Stores.{objects_of}
 use Rattle.c_meaning.specs.Promises.{Part, Start, run_part, Full, function_versions, loop_versions}
 use Rattle.c_meaning.specs.Twins.{StandOverOneTable, IsClosed}
@@ -55,6 +57,17 @@ abbrev pub LoopUnfolds : Program → Type 0
 LoopUnfolds program =
     (d number : ℕ) (first : Bool) (test : Doing ℕ Bool) (round : Doing ℕ Manner) (locals : List (List Value)) (store : List Value) (x : ℕ) → Spends test → Spends round →
     (stepping program d).loop number first test round (state locals store x) ≡ turn first (spend test) round ((stepping program d).loop number first test round) (state locals store x)
+
+-- the tests and the rounds of loop statements, in a run
+abbrev pub TestsSpend : Program → Type 0
+TestsSpend program = (d : ℕ) (test : Option Expression) → Spends (test_of program (stepping program d) test)
+
+abbrev pub BodiesSpend : Program → Type 0
+BodiesSpend program = (d : ℕ) (body : Statement) → Spends (meaning program (stepping program d) body)
+
+abbrev pub RoundsSpend : Program → Type 0
+RoundsSpend program =
+    (d : ℕ) (body : Statement) (last : List Action) → Spends (and_then (meaning program (stepping program d) body) (after_body (acts program (stepping program d) last)))
 
 -- the call of a table for what was met
 abbrev pub made : {X : Type 0} → Directory → Met X → Made

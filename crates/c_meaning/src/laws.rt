@@ -1,6 +1,6 @@
 //! Laws of runs. The functions do nothing: each carries a law as its contract.
 
-ghost use Rattle.c_meaning.specs.Laws.{MoreKeepsEnd, StepsExact, OneEnd, CallUnfolds, LoopUnfolds, TableSees, TableSeesTurn, TwinsRunAlike, TwinsAreFull, TwinLoopsAreFull, PlainTwinsAreFull};
+ghost use Rattle.c_meaning.specs.Laws.{MoreKeepsEnd, StepsExact, OneEnd, CallUnfolds, LoopUnfolds, TestsSpend, BodiesSpend, RoundsSpend, TableSees, TableSeesTurn, TwinsRunAlike, TwinsAreFull, TwinLoopsAreFull, PlainTwinsAreFull};
 
 use rvt_tree::{Pairing, Program};
 
@@ -27,6 +27,13 @@ pub fn call_unfolds(_program: &Program)
 /// A loop does one turn, and then itself.
 pub fn loop_unfolds(_program: &Program)
     ensures { LoopUnfolds _program.now }
+{}
+
+/// The tests, the bodies and the rounds of loop statements leave no more steps than there were.
+pub fn loop_parts_spend(_program: &Program)
+    ensures tests { TestsSpend _program.now }
+    ensures bodies { BodiesSpend _program.now }
+    ensures rounds { RoundsSpend _program.now }
 {}
 
 /// A body ends under a table that gives the ends of what it met in a run as it ended in the run.

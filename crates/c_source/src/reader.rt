@@ -1,6 +1,7 @@
 //! The tree of a file.
 
 ghost use Rattle.std.specs.Prelude.{◌≡◌, List, IfOk, IfErr};
+ghost use Rattle.c_syntax.specs.Syntax.{ExternalItem};
 ghost use Rattle.c_syntax.specs.Views.{file_view};
 ghost use Rattle.c_lexer.specs.Spells as lexer;
 ghost use Rattle.c_lexer.specs.Places.{place_after};
@@ -21,6 +22,7 @@ use std::alloc::Global;
 /// The tree of a C file. It is refused where it is none, at the first place that no file has so.
 pub fn read(alloc: Global, bytes: &[u8]) -> Result<File, Refused>
     ensures file { IfOk result (λ file. IsSource bytes.now (file_view file)) }
+    ensures only { IfOk result (λ file. (items : List ExternalItem) → IsSource bytes.now items → items ≡ file_view file) }
     ensures refused { IfErr result (IsFaultOf bytes.now) }
     ensures none { IfErr result (HasNoSource bytes.now) }
 {

@@ -24,7 +24,7 @@ entry_set structs i old new members within read is =
     ∙ ap (λ (o : Option StructEntry). set (map struct_entry_view structs) i (completed o members))
     (sym (slice_get-map struct_entry_view structs i ∙ ap (option_map struct_entry_view) (slice_get-get_or structs i old within ∙ ap Some (sym read))))
 
-position_set : {X : Type 0} (p : X → Bool) (xs : List X) (i : ℕ) (y d : X) → p y ≡ p (get_or xs i d) → position p (set xs i y) ≡ position p xs
+pub position_set : {X : Type 0} (p : X → Bool) (xs : List X) (i : ℕ) (y d : X) → p y ≡ p (get_or xs i d) → position p (set xs i y) ≡ position p xs
 position_set p xs i y d same = rw (position_or_len-set p xs i y d same, length-set xs i y) refl
 
 pub still_numbered : (index : List (Named ℕ)) (structs : List Structure) (i : ℕ) (old new : Structure) (members : s.Members) → i < length structs → old ≡ get_or structs i old

@@ -1,4 +1,5 @@
 mod Completed
+mod EntryChanges
 mod Integers
 mod Numbered
 mod OutlineSteps

@@ -4,6 +4,7 @@
 mod built_in;
 mod comparisons;
 mod copies;
+mod declarations;
 mod entries;
 mod enumerations;
 mod functions;
@@ -17,6 +18,7 @@ mod tags;
 pub use built_in::built_in_names;
 pub use comparisons::{same_results, same_types};
 pub use copies::{copied_interface, copied_type, copied_types};
+pub use declarations::{function_declared, with_body};
 pub use entries::{FunctionBody, FunctionEntry, Interface, Members};
 pub use enumerations::{begins_enum, is_int, with_constant, with_enum};
 pub use functions::{

@@ -1,5 +1,5 @@
 -- A chain of resolutions comes to one clause alone, so a line with a fault is not derived.
-use Rattle.std.proofs.Common.{◌≡◌, ◌≢◌, ◌⊎◌, inl, inr, ℕ, zero, suc, ℤ, ◌<◌, List, [], ◌∷◌, ◌++◌, length, take, slice_index_or, refl, sym, ap, ◌∙◌, arith, subst}
+use Rattle.std.proofs.Common.{◌≡◌, ◌≢◌, ◌⊎◌, inl, inr, ℕ, ℤ, ◌<◌, List, [], ◌∷◌, ◌++◌, length, take, slice_index_or, arith, subst}
 use Rattle.std.specs.Prelude.{Contains}
 use Rattle.clause_db.specs.declared.clause.LogLine.{LogLine}
 use Rattle.clause_db.specs.Literal.{variable_of, IsOrdered}
@@ -7,50 +7,10 @@ use Rattle.clause_db.specs.Log.{results, ResolvesTo, IsDerived}
 use Rattle.clause_db.specs.Resolution.{ClashesOnlyAt, IsResolvent}
 use Rattle.clause_db.proofs.Ordered.{at_member}
 use Rattle.clause_db.proofs.Places.{IsNumbered-same}
+use Rattle.chain_resolution.proofs.Lists.{ordered_same}
 use Rattle.refutation_check.specs.Faults.{ChainFault, LineFault, IsFirstFault, IsRefusal}
 use Rattle.refutation_check.specs.declared.fault.LogFault.{LogFault}
 use Rattle.refutation_check.specs.declared.fault.LogFault.TheVariants.{Line, Memory}
-
-head_of : (x : ℤ) (xs : List ℤ) → Contains (x ∷ xs) x
-head_of x xs = (0, omega arith, refl)
-
-behind : (x : ℤ) (xs : List ℤ) (l : ℤ) → Contains xs l → Contains (x ∷ xs) l
-behind x xs l (k, h, e) = (suc k, omega (arith, h), e)
-
-head_or_behind : (x : ℤ) (xs : List ℤ) (l : ℤ) → Contains (x ∷ xs) l → (x ≡ l) ⊎ Contains xs l
-head_or_behind x xs l (zero, h, e) = inl e
-head_or_behind x xs l (suc k, h, e) = inr (k, omega (arith, h), e)
-
-ordered_behind : (x : ℤ) (xs : List ℤ) → IsOrdered (x ∷ xs) → IsOrdered xs
-ordered_behind x xs ordered i j d a b = ordered (suc i) (suc j) d (omega (arith, a)) (omega (arith, b))
-
-above_head : (x : ℤ) (xs : List ℤ) (l : ℤ) → IsOrdered (x ∷ xs) → Contains xs l → variable_of x < variable_of l
-above_head x xs l ordered (k, h, e) = subst (λ m. variable_of x < variable_of m) e (ordered 0 (suc k) l (omega arith) (omega (arith, h)))
-
--- two clauses with the same literals are the same
-pub ordered_same : (xs ys : List ℤ) → IsOrdered xs → IsOrdered ys → ((l : ℤ) → Contains xs l → Contains ys l) → ((l : ℤ) → Contains ys l → Contains xs l) → xs ≡ ys
-ordered_same [] [] ox oy there back = refl
-ordered_same [] (y ∷ ys) ox oy there back = absurd (let w = (back y (head_of y ys)).1 in omega (arith, w))
-ordered_same (x ∷ xs) [] ox oy there back = absurd (let w = (there x (head_of x xs)).1 in omega (arith, w))
-ordered_same (x ∷ xs) (y ∷ ys) ox oy there back =
-    ap (λ z. z ∷ xs) (heads x xs y ys ox oy there back) ∙ ap (λ zs. y ∷ zs) (ordered_same xs ys (ordered_behind x xs ox) (ordered_behind y ys oy) (tails x xs y ys ox (heads x xs y ys ox oy there back) there) (tails y ys x xs oy (sym (heads x xs y ys ox oy there back)) back))
-  where
-    heads : (x : ℤ) (xs : List ℤ) (y : ℤ) (ys : List ℤ) → IsOrdered (x ∷ xs) → IsOrdered (y ∷ ys) → ((l : ℤ) → Contains (x ∷ xs) l → Contains (y ∷ ys) l) → ((l : ℤ) → Contains (y ∷ ys) l → Contains (x ∷ xs) l) → x ≡ y
-    heads x xs y ys ox oy there back =
-        elim (head_or_behind y ys x (there x (head_of x xs))) [
-          | inl e ↦ sym e
-          | inr w ↦ elim (head_or_behind x xs y (back y (head_of y ys))) [
-            | inl e ↦ e
-            | inr v ↦ absurd (let a = above_head y ys x oy w in let b = above_head x xs y ox v in omega (arith, a, b))
-          ]
-        ]
-
-    tails : (x : ℤ) (xs : List ℤ) (y : ℤ) (ys : List ℤ) → IsOrdered (x ∷ xs) → x ≡ y → ((l : ℤ) → Contains (x ∷ xs) l → Contains (y ∷ ys) l) → (l : ℤ) → Contains xs l → Contains ys l
-    tails x xs y ys ox same there l w =
-        elim (head_or_behind y ys l (there l (behind x xs l w))) [
-          | inl e ↦ absurd (let a = above_head x xs l ox w in let b = ap variable_of (same ∙ e) in omega (arith, a, b))
-          | inr v ↦ v
-        ]
 
 -- a resolvent has no literal that another one lacks
 covers : (variable : ℕ) (a b r s : List ℤ) → IsResolvent variable a b r → IsResolvent variable a b s → (l : ℤ) → Contains r l → Contains s l

@@ -12,7 +12,8 @@ use crate::lines::fault_of_line;
 use crate::orders::{hint_of, order_of, use_at, uses_of};
 use crate::places::Places;
 use crate::tries::take_back;
-use clause_db::{Clauses, Log, LogLine, Memory, Replay, largest_variable};
+use chain_resolution::MarkedClause;
+use clause_db::{Clauses, Log, LogLine, Memory, largest_variable};
 use std::alloc::Global;
 use unit_propagation::{Trail, Watches};
 
@@ -65,7 +66,7 @@ fn is_refuted(clauses: &Clauses, trail: &mut Trail, watches: &mut Watches) -> Re
 /// What is wrong with a line of a budget log, if something is, where these lines stand before it.
 fn budget_fault_of_line(
     alloc: Global,
-    replay: &mut Replay,
+    marks: &mut MarkedClause,
     clauses: &Clauses,
     before: &[LogLine],
     trail: &mut Trail,
@@ -78,7 +79,7 @@ fn budget_fault_of_line(
     ensures verdict { IfOk result (IsBudgetVerdict (literal_lists clauses.now.list.items ++ results before.now) line.now) }
     ensures variables { length trail.new.places.items ≡ length trail.old.places.items }
 {
-    let fault = fault_of_line(replay, clauses, before, line)?;
+    let fault = fault_of_line(marks, clauses, before, line)?;
     match fault {
         Some(cause) => return Ok(Some(cause)),
         None => {}
@@ -131,11 +132,11 @@ pub fn check_budget(alloc: Global, clauses: &Clauses, log: &Log, limit: u32) -> 
         Ok(uses) => uses,
         Err(_) => return Err(LogFault::Memory),
     };
-    let mut replay = Replay::new(alloc);
+    let mut marks = MarkedClause::new(alloc);
     for index in 0..total {
         match budget_fault_of_line(
             alloc,
-            &mut replay,
+            &mut marks,
             clauses,
             &log.lines[..index],
             &mut trail,

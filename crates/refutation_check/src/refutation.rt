@@ -5,7 +5,8 @@ ghost use Rattle.refutation_check.specs.Faults.{IsFirstFault, IsRefusal};
 
 use crate::fault::{LogFault, NOT_EMPTY_AT_END};
 use crate::lines::fault_of_line;
-use clause_db::{Clauses, Log, Replay};
+use chain_resolution::MarkedClause;
+use clause_db::{Clauses, Log};
 use std::alloc::Global;
 
 /// Does the log refute the clauses?
@@ -15,10 +16,10 @@ pub fn check_log(alloc: Global, clauses: &Clauses, log: &Log) -> Result<(), LogF
     ensures refused { IfErr result (IsRefusal (literal_lists clauses.now.list.items) log.now.lines.items) }
     ensures first_fault { IfErr result (IsFirstFault (literal_lists clauses.now.list.items) log.now.lines.items) }
 {
-    let mut replay = Replay::new(alloc);
+    let mut marks = MarkedClause::new(alloc);
     let total = log.lines.len();
     for index in 0..total {
-        match fault_of_line(&mut replay, clauses, &log.lines[..index], &log.lines[index]) {
+        match fault_of_line(&mut marks, clauses, &log.lines[..index], &log.lines[index]) {
             Err(_) => return Err(LogFault::Memory),
             Ok(Some(cause)) => return Err(LogFault::Line(index as u64 + 1, cause)),
             Ok(None) => {}

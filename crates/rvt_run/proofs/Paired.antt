@@ -1,29 +1,35 @@
 -- The pairs of one more function.
-use Rattle.std.proofs.Common.{◌≡◌, ℕ, suc, ◌+◌, ◌<◌, List, [], ◌∷◌, ◌++◌, Option, Some, None, length, drop, get_or, drop-cons, sym, ◌∙◌, ap, arith, append_assoc}
+use Rattle.std.proofs.Common.{◌≡◌, ℕ, suc, ◌+◌, ◌<◌, List, [], ◌∷◌, ◌++◌, Option, Some, None, length, drop, get_or, drop-cons, sym, ◌∙◌, ap, subst, arith, append_assoc}
+use Rattle.std.proofs.lemmas.List.{append-nil}
+use Rattle.rvt_tree.specs.declared.pairings.Pairing.{Pairing}
 use Rattle.rvt_tree.specs.declared.programs.Function.{Function}
-use Rattle.rvt_run.specs.Names.{named}
-use Rattle.rvt_run.specs.Twins.{is_paired}
-use Rattle.rvt_run.specs.Report.{PairVerdict, paired_before, pairs_of, verdict_by}
+use Rattle.rvt_run.specs.declared.pairs.Verdict.{Verdict}
+use Rattle.rvt_run.specs.Pairs.{PairVerdict, ArePairs, no_more, skipped, paired, partner_of, is_twin, IsVerdict}
 
--- the pairs of the functions from here on
-pairs_from : (new old : List Function) (twins : List (Option ℕ)) (i : ℕ) (f : Function) → i < length old → f ≡ get_or old i f →
-    pairs_of new twins i (drop i old) ≡ paired_before f (named new f.name) (is_paired twins i) (pairs_of new twins (i + 1) (drop (i + 1) old))
-pairs_from new old twins i f low is =
-    let next : suc i ≡ i + 1 = omega arith in
-    ap (λ (fs : List Function). pairs_of new twins i fs) (drop-cons old i f low ∙ ap (λ (x : Function). x ∷ drop (suc i) old) (sym is))
-    ∙ ap (λ (n : ℕ). paired_before f (named new f.name) (is_paired twins i) (pairs_of new twins (i + 1) (drop n old))) next
+module _ (pairing : Pairing) (new old : List Function) (twins : Option Pairing) (Whole : List PairVerdict → Type 0) where
+  -- with the pairs of the functions from here on these are the whole
+  abbrev pub Leads : ℕ → List PairVerdict → Type 0
+  Leads i made = (rest : List PairVerdict) → ArePairs pairing new twins i (drop i old) rest → Whole (made ++ rest)
 
--- a function without a partner adds nothing
-pub without_partner : (new old : List Function) (twins : List (Option ℕ)) (made whole : List PairVerdict) (i : ℕ) (f : Function) → i < length old → f ≡ get_or old i f →
-    named new f.name ≡ None → made ++ pairs_of new twins i (drop i old) ≡ whole → made ++ pairs_of new twins (i + 1) (drop (i + 1) old) ≡ whole
-without_partner new old twins made whole i f low is none so_far =
-    ap (λ (l : List PairVerdict). made ++ l) (sym (pairs_from new old twins i f low is ∙ ap (λ (o : Option Function). paired_before f o (is_paired twins i) (pairs_of new twins (i + 1) (drop (i + 1) old))) none)) ∙ so_far
+  -- the functions from here on
+  from_here : (i : ℕ) (f : Function) → i < length old → f ≡ get_or old i f → drop i old ≡ f ∷ drop (i + 1) old
+  from_here i f low is =
+      let next : suc i ≡ i + 1 = omega arith in
+      drop-cons old i f low ∙ ap (λ (x : Function). x ∷ drop (suc i) old) (sym is) ∙ ap (λ (n : ℕ). f ∷ drop n old) next
 
--- one with a partner adds its verdict
-pub with_partner : (new old : List Function) (twins : List (Option ℕ)) (made whole : List PairVerdict) (i : ℕ) (f g : Function) (added : PairVerdict) → i < length old → f ≡ get_or old i f →
-    named new f.name ≡ Some g → added ≡ (f.name, verdict_by f g (is_paired twins i)) → made ++ pairs_of new twins i (drop i old) ≡ whole → (made ++ added ∷ []) ++ pairs_of new twins (i + 1) (drop (i + 1) old) ≡ whole
-with_partner new old twins made whole i f g added low is some added_is so_far =
-    let rest = pairs_of new twins (i + 1) (drop (i + 1) old) in
-    append_assoc made (added ∷ []) rest
-    ∙ ap (λ (p : PairVerdict). made ++ p ∷ rest) added_is
-    ∙ ap (λ (l : List PairVerdict). made ++ l) (sym (pairs_from new old twins i f low is ∙ ap (λ (o : Option Function). paired_before f o (is_paired twins i) rest) some)) ∙ so_far
+  -- a function without a partner adds nothing
+  pub without_partner : (i : ℕ) (f : Function) (made : List PairVerdict) → i < length old → f ≡ get_or old i f → partner_of new f ≡ None → Leads i made → Leads (i + 1) made
+  without_partner i f made low is none leads rest pairs =
+      leads rest (subst (λ (fs : List Function). ArePairs pairing new twins i fs rest) (sym (from_here i f low is)) (skipped i f (drop (i + 1) old) rest none pairs))
+
+  -- one with a partner adds its verdict
+  pub with_partner : (i : ℕ) (f g : Function) (verdict : Verdict) (made : List PairVerdict) → i < length old → f ≡ get_or old i f → partner_of new f ≡ Some g →
+      IsVerdict pairing f g (is_twin twins i) verdict → Leads i made → Leads (i + 1) (made ++ (f.name, verdict) ∷ [])
+  with_partner i f g verdict made low is some judged leads rest pairs =
+      subst Whole (sym (append_assoc made ((f.name, verdict) ∷ []) rest))
+      (leads ((f.name, verdict) ∷ rest) (subst (λ (fs : List Function). ArePairs pairing new twins i fs ((f.name, verdict) ∷ rest)) (sym (from_here i f low is)) (paired i f (drop (i + 1) old) rest g verdict some judged pairs)))
+
+  -- at the end these are the whole
+  pub all_paired : (i : ℕ) (made : List PairVerdict) → drop i old ≡ [] → Leads i made → Whole made
+  all_paired i made done leads =
+      subst Whole (append-nil made) (leads [] (subst (λ (fs : List Function). ArePairs pairing new twins i fs []) (sym done) (no_more i)))

@@ -1,8 +1,7 @@
 -- Each line of an answer is one line.
-use Rattle.std.proofs.Common.{◌≡◌, ◌≢◌, ℕ, suc, ◌+◌, ◌-◌, ◌^◌, ◌<◌, ◌≤◌, Bool, true, false, if◌then◌else◌, List, [], ◌∷◌, ◌++◌, length, Option, Some, None, refl, sym, ◌∙◌, ap, subst, arith}
+use Rattle.std.proofs.Common.{◌≡◌, ◌≢◌, ℕ, suc, ◌+◌, ◌-◌, ◌^◌, ◌<◌, ◌≤◌, Bool, true, false, if◌then◌else◌, List, [], ◌∷◌, ◌++◌, length, Option, refl, sym, ◌∙◌, ap, subst, arith}
 use Rattle.std.specs.Prelude.{◌==◌, codes, cond, All}
 use Rattle.std.specs.Fmt.{decimal}
-use Rattle.std.specs.Option.{is_none}
 use Rattle.std.proofs.lemmas.Bool.{eqb-true}
 use Rattle.std.proofs.lemmas.Fmt.{decimal_is_IsNumeral}
 use Rattle.std.specs.Char.{digit_value}
@@ -11,13 +10,12 @@ use Rattle.std.proofs.lemmas.List.Elements.{All-nil, All-cons, All-append}
 use Rattle.rvt_tree.specs.declared.pairings.Pairing.{Pairing}
 use Rattle.rvt_tree.specs.declared.programs.Function.{Function}
 use Rattle.rvt_tree.specs.declared.programs.Program.{Program}
-use Rattle.rvt_run.specs.declared.lines.Verdict.{Verdict}
-use Rattle.rvt_run.specs.declared.lines.Verdict.TheVariants.{Twin, Interface, Bodies}
-use Rattle.first_form.specs.Texts.{HasNoLineEnd}
-use Rattle.rvt_run.specs.Answer.{IsLine, line, not_of_form, no_command}
-use Rattle.rvt_run.specs.Names.{function_number, named}
-use Rattle.rvt_run.specs.Report.{PairVerdict, verdict_by, verdict_text, paired_before, pairs_of, pair_line, pair_lines, only_lines, counts_text, counts_of, full_among, is_full, report_lines}
-use Rattle.rvt_run.specs.Twins.{is_paired}
+use Rattle.rvt_run.specs.declared.pairs.Verdict.{Verdict}
+use Rattle.rvt_run.specs.declared.pairs.Verdict.TheVariants.{Twin, Interface, Bodies}
+use Rattle.rvt_run.specs.Answer.{IsLine, line, no_command}
+use Rattle.rvt_run.specs.Pairs.{PairVerdict, ArePairs, no_more, skipped, paired, is_alone}
+use Rattle.rvt_run.specs.Report.{verdict_text, pair_line, pair_lines, only_lines, counts_text, counts_of, full_among, is_full, report_lines}
+use Rattle.rvt_run.specs.Texts.{HasNoLineEnd}
 use Rattle.rvt_run.specs.Words.{IsPlain}
 
 -- ---- texts without line ends
@@ -93,20 +91,16 @@ rest_none f fs none k d h = none (suc k) d (omega (arith, h))
 first_none : (f : Function) (fs : List Function) → NamesNone (f ∷ fs) → HasNoLineEnd f.name
 first_none f fs none = none 0 f (omega arith)
 
-pairs_shaped : (new : List Function) (twins : List (Option ℕ)) (i : ℕ) (fs : List Function) → NamesNone fs → All IsLine (pair_lines (pairs_of new twins i fs))
-pairs_shaped new twins i [] none = All-nil IsLine
-pairs_shaped new twins i (f ∷ fs) none = cases (named new f.name) (pairs_shaped new twins (i + 1) fs (rest_none f fs none))
-  where
-    cases : (partner : Option Function) → All IsLine (pair_lines (pairs_of new twins (i + 1) fs)) → All IsLine (pair_lines (paired_before f partner (is_paired twins i) (pairs_of new twins (i + 1) fs)))
-    cases None rest = rest
-    cases (Some g) rest =
-        All-cons IsLine (pair_line (f.name, verdict_by f g (is_paired twins i))) (pair_lines (pairs_of new twins (i + 1) fs))
-        (line_of f.name (verdict_text (verdict_by f g (is_paired twins i))) (first_none f fs none) (verdict_none (verdict_by f g (is_paired twins i))))
-        rest
+pairs_shaped : (pairing : Pairing) (new : List Function) (twins : Option Pairing) (i : ℕ) (fs : List Function) (pairs : List PairVerdict) → ArePairs pairing new twins i fs pairs → NamesNone fs → All IsLine (pair_lines pairs)
+pairs_shaped pairing new twins _ _ _ (no_more i) none = All-nil IsLine
+pairs_shaped pairing new twins _ _ _ (skipped i f fs pairs alone rest) none = pairs_shaped pairing new twins (i + 1) fs pairs rest (rest_none f fs none)
+pairs_shaped pairing new twins _ _ _ (paired i f fs pairs g verdict some judged rest) none =
+    All-cons IsLine (pair_line (f.name, verdict)) (pair_lines pairs) (line_of f.name (verdict_text verdict) (first_none f fs none) (verdict_none verdict))
+    (pairs_shaped pairing new twins (i + 1) fs pairs rest (rest_none f fs none))
 
 only_shaped : (word : List ℕ) → HasNoLineEnd word → (others fs : List Function) → NamesNone fs → All IsLine (only_lines word others fs)
 only_shaped word plain others [] none = All-nil IsLine
-only_shaped word plain others (f ∷ fs) none = cases (is_none (function_number others f.name)) (only_shaped word plain others fs (rest_none f fs none))
+only_shaped word plain others (f ∷ fs) none = cases (is_alone others f) (only_shaped word plain others fs (rest_none f fs none))
   where
     cases : (b : Bool) → All IsLine (only_lines word others fs) → All IsLine (cond b ((word ++ f.name ++ 10 ∷ []) ∷ only_lines word others fs) (only_lines word others fs))
     cases true more = All-cons IsLine (word ++ f.name ++ 10 ∷ []) (only_lines word others fs) (line_of word f.name plain (first_none f fs none)) more
@@ -114,13 +108,10 @@ only_shaped word plain others (f ∷ fs) none = cases (is_none (function_number 
 
 -- ---- counts
 
-pairs_few : (new : List Function) (twins : List (Option ℕ)) (i : ℕ) (fs : List Function) → length (pairs_of new twins i fs) ≤ length fs
-pairs_few new twins i [] = omega arith
-pairs_few new twins i (f ∷ fs) = cases (named new f.name) (pairs_few new twins (i + 1) fs)
-  where
-    cases : (partner : Option Function) → length (pairs_of new twins (i + 1) fs) ≤ length fs → length (paired_before f partner (is_paired twins i) (pairs_of new twins (i + 1) fs)) ≤ suc (length fs)
-    cases None rest = omega (arith, rest)
-    cases (Some g) rest = omega (arith, rest)
+pairs_few : (pairing : Pairing) (new : List Function) (twins : Option Pairing) (i : ℕ) (fs : List Function) (pairs : List PairVerdict) → ArePairs pairing new twins i fs pairs → length pairs ≤ length fs
+pairs_few pairing new twins _ _ _ (no_more i) = omega arith
+pairs_few pairing new twins _ _ _ (skipped i f fs pairs alone rest) = let few : length pairs ≤ length fs = pairs_few pairing new twins (i + 1) fs pairs rest in omega (arith, few)
+pairs_few pairing new twins _ _ _ (paired i f fs pairs g verdict some judged rest) = let few : length pairs ≤ length fs = pairs_few pairing new twins (i + 1) fs pairs rest in omega (arith, few)
 
 full_few : (pairs : List PairVerdict) → full_among pairs ≤ length pairs
 full_few [] = omega arith
@@ -130,7 +121,7 @@ full_few (pair ∷ rest) = cases (is_full pair.1) (full_few rest)
     cases true low = omega (arith, low)
     cases false low = omega (arith, low)
 
-counts_shaped : (full all : ℕ) → full ≤ all → all ≤ 1000 → IsLine (counts_of full all)
+counts_shaped : (full all : ℕ) → full ≤ all → all ≤ 2 ^ 32 → IsLine (counts_of full all)
 counts_shaped full all low few =
     line_of (codes "pairs ") (counts_text full all) (literal (codes "pairs ") refl)
     (joined (decimal all) (codes " full " ++ (decimal full ++ (codes " partial 0 different 0 unknown " ++ decimal (all - full)))) (number_none all (omega (arith, few)))
@@ -139,16 +130,16 @@ counts_shaped full all low few =
     (joined (codes " partial 0 different 0 unknown ") (decimal (all - full)) (literal (codes " partial 0 different 0 unknown ") refl) (number_none (all - full) (omega (arith, few)))))))
 
 -- each line of a report
-pub report_shaped : (old new : Program) (twins : Pairing) → NamesNone old.functions → NamesNone new.functions → length old.functions ≤ 1000 → All IsLine (report_lines old new twins)
-report_shaped old new twins olds news few =
-    let pairs = pairs_of new.functions twins.functions 0 old.functions in
+pub report_shaped : (old new : Program) (pairing : Pairing) (twins : Option Pairing) (pairs : List PairVerdict) → ArePairs pairing new.functions twins 0 old.functions pairs →
+    NamesNone old.functions → NamesNone new.functions → length old.functions ≤ 2 ^ 32 → All IsLine (report_lines old new pairs)
+report_shaped old new pairing twins pairs are_pairs olds news few =
     let only_old = only_lines (codes "only old: ") new.functions old.functions in
     let only_new = only_lines (codes "only new: ") old.functions new.functions in
     let counts = counts_of (full_among pairs) (length pairs) in
-    let first : All IsLine (pair_lines pairs) = pairs_shaped new.functions twins.functions 0 old.functions olds in
+    let first : All IsLine (pair_lines pairs) = pairs_shaped pairing new.functions twins 0 old.functions pairs are_pairs olds in
     let second : All IsLine only_old = only_shaped (codes "only old: ") (literal (codes "only old: ") refl) new.functions old.functions olds in
     let third : All IsLine only_new = only_shaped (codes "only new: ") (literal (codes "only new: ") refl) old.functions new.functions news in
-    let within : length pairs ≤ length old.functions = pairs_few new.functions twins.functions 0 old.functions in
+    let within : length pairs ≤ length old.functions = pairs_few pairing new.functions twins 0 old.functions pairs are_pairs in
     let last : IsLine counts = counts_shaped (full_among pairs) (length pairs) (full_few pairs) (omega (arith, within, few)) in
     All-append IsLine (pair_lines pairs ++ only_old ++ only_new) (counts ∷ []) (All-append IsLine (pair_lines pairs ++ only_old) only_new (All-append IsLine (pair_lines pairs) only_old first second) third) (only_this counts last)
 
@@ -158,8 +149,17 @@ report_shaped old new twins olds news few =
 pub line_shaped : (name text : List ℕ) → HasNoLineEnd name → one_line_text text ≡ true → All IsLine (line name text ∷ [])
 line_shaped name text none is = only_this (line name text) (line_of name text none (literal text is))
 
-pub refusal_shaped : (name : List ℕ) → HasNoLineEnd name → All IsLine (not_of_form name)
-refusal_shaped name none = line_shaped name (codes ": not of the first form") none refl
-
 pub no_command_shaped : All IsLine no_command
 no_command_shaped = line_shaped (codes "rvt: the words are no command") [] (literal (codes "rvt: the words are no command") refl) refl
+
+-- bytes of which none ends a line
+pub no_line_end : (text : List ℕ) → All (λ byte. byte ≢ 10) text → HasNoLineEnd text
+no_line_end [] all = tt
+no_line_end (b ∷ text) all = (other_byte b (all 0 b (omega arith)), no_line_end text (λ k d h. all (suc k) d (omega (arith, h))))
+
+-- no byte of a name of the functions ends a line
+abbrev pub NamesPlain : List Function → Type 0
+NamesPlain = All (λ f. All (λ byte. byte ≢ 10) f.name)
+
+pub names_none : (functions : List Function) → NamesPlain functions → NamesNone functions
+names_none functions all k d h = no_line_end _ (all k d h)

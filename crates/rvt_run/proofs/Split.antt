@@ -2,7 +2,7 @@
 use Rattle.std.proofs.Common.{◌≡◌, ℕ, zero, suc, Bool, true, false, if◌then◌else◌, List, [], ◌∷◌, ◌++◌, take, length, get_or, ◌<◌, refl, sym, ◌∙◌, ap, arith, append_assoc}
 use Rattle.std.specs.Prelude.{◌==◌, All}
 use Rattle.std.specs.List.{concat, Contains}
-use Rattle.first_form.specs.Texts.{HasNoLineEnd}
+use Rattle.rvt_run.specs.Texts.{HasNoLineEnd}
 use Rattle.rvt_run.specs.Answer.{IsLine}
 use Rattle.rvt_run.specs.Headline.{lines_from, lines_of}
 

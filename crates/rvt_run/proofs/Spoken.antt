@@ -9,9 +9,11 @@ use Rattle.std.proofs.Math.Nat.{eq-or-lt_of_le}
 use Rattle.rvt_edge.specs.declared.desk.Call.{Call}
 use Rattle.rvt_edge.specs.Desk.{Files}
 use Rattle.rvt_edge.specs.Sink.{Grows, GrowsByPart}
-use Rattle.rvt_run.specs.Answer.{Answers, refused, old_fault, old_long, new_fault, new_long, compared, Compares, old_refused, new_refused, reported, Writes, IsLine, line, no_command}
+use Rattle.c_source.specs.declared.refused.Refusal.{Refusal}
+use Rattle.rvt_run.specs.Answer.{Answers, refused_at, refused, old_fault, old_long, new_fault, new_long, compared, Compares, old_refused, new_refused, reported, Writes, IsLine, line, no_command}
 use Rattle.rvt_run.specs.Headline.{lines_of, SaysFullTruly, IsFullInFiles}
 use Rattle.rvt_run.specs.Report.{IsName, IsTrueLine, full_line}
+use Rattle.rvt_run.proofs.Placed.{placed_no_full}
 use Rattle.rvt_run.proofs.Split.{lines_of_concat, line_of_part}
 use Rattle.rvt_run.proofs.Truth.{same_end}
 
@@ -31,6 +33,14 @@ lone first front byte name differs among = cases among.0 among.1 among.2
     cases zero low is = differs (other_end first front name byte is)
     cases (suc k) low is = omega (arith, low)
 
+-- a refusal says nothing of a pair
+no_refusal : (file : List ℕ) (refusal : Refusal) (name : List ℕ) → IsName name → Contains (refused_at file refusal) (full_line name) → ⊥
+no_refusal file refusal name is_name among = cases among.0 among.1 among.2
+  where
+    cases : (k : ℕ) → k < 1 → get_or (refused_at file refusal) k (full_line name) ≡ full_line name → ⊥
+    cases zero low is = placed_no_full file refusal name is_name is
+    cases (suc k) low is = omega (arith, low)
+
 -- where a line of the answer says that a pair is fully equivalent, it is
 pub answer_true : (words : List (List ℕ)) (files : Option Files) (calls : List Call) (status : ℕ) (lines : List (List ℕ)) (name : List ℕ) → Answers words files calls status lines → IsName name →
     Contains lines (full_line name) → IsFullInFiles words files name
@@ -45,8 +55,8 @@ answer_true words files calls status lines name (new_long old new bytes is whole
 answer_true words files calls status lines name (compared old new old_bytes new_bytes is old_told new_told compares) is_name among = by status lines compares among
   where
     by : (status : ℕ) (lines : List (List ℕ)) → Compares old new old_bytes new_bytes status lines → Contains lines (full_line name) → IsFullInFiles words files name
-    by status lines (old_refused none) among = absurd (lone old (codes ": not of the first for") 109 name (λ e. omega (arith, e)) among)
-    by status lines (new_refused p read none) among = absurd (lone new (codes ": not of the first for") 109 name (λ e. omega (arith, e)) among)
+    by status lines (old_refused refusal refuses none) among = absurd (no_refusal old refusal name is_name among)
+    by status lines (new_refused p refusal read refuses none) among = absurd (no_refusal new refusal name is_name among)
     by status lines (reported p q p_read q_read report) among = record {
       old_name = old;
       new_name = new;

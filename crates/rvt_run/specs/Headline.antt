@@ -3,7 +3,7 @@ use Rattle.std.specs.Prelude.{◌≡◌, ℕ, ◌==◌, if◌then◌else◌, Lis
 use Rattle.std.specs.List.{Contains}
 use Rattle.rvt_edge.specs.Desk.{Files}
 use Rattle.rvt_tree.specs.declared.programs.Program.{Program}
-use Rattle.first_form.specs.Source.{IsReading}
+use Rattle.c_programs.specs.Readings.{IsReading}
 use Rattle.rvt_run.specs.Words.{IsCompare}
 use Rattle.rvt_run.specs.Answer.{IsWhole}
 use Rattle.rvt_run.specs.Report.{IsName, full_line, IsFullPair}

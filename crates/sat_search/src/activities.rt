@@ -36,7 +36,8 @@ fn number_at(table: &[u64], place: usize) -> u64 {
     if place < table.len() { table[place] } else { 0 }
 }
 
-fn place_at(table: &[usize], place: usize) -> usize {
+/// What stands at a place of a table, or 0 behind its end.
+pub fn place_at(table: &[usize], place: usize) -> usize {
     if place < table.len() { table[place] } else { 0 }
 }
 

@@ -1,4 +1,5 @@
 ghost use Rattle.std.specs.Prelude.{◌≡◌, ◌≢◌, ℕ, ℤ, List, ◌<◌, ◌≤◌, [], ◌++◌, length, All, Contains, IfOk, OnOk, slice_index, IsTrue};
+ghost use Rattle.chain_resolution.specs.Marked.{marked};
 ghost use Rattle.clause_db.specs.Literal.{variable_of};
 ghost use Rattle.clause_db.specs.Log.{literal_lists, results, IsDerived};
 ghost use Rattle.clause_db.specs.Numbered.{IsNumbered};
@@ -8,50 +9,30 @@ ghost use Rattle.sat_search.specs.Latest.{IsLatest};
 ghost use Rattle.sat_search.specs.Learning.{IsSearching, last_start};
 ghost use Rattle.sat_search.specs.Parts.{IsPartFrom, ResolvesOn};
 
-use crate::learning::{Learnt, latest_of, level_bound, resolve_back};
-use clause_db::{Clause, Clauses, LogLine, Memory, Replay, clause_at, variable};
+use crate::activities::place_at;
+use crate::learning::{Latest, latest_of, level_bound, resolve_back};
+use chain_resolution::MarkedClause;
+use clause_db::{Clause, Clauses, LogLine, Memory, clause_at, variable};
 use std::alloc::Global;
 use unit_propagation::Trail;
 
-/// Has the clause this literal? It is looked for by halves.
-fn has(clause: &Clause, literal: i64) -> bool
-    ensures { IsTrue result → Contains clause.now.literals.items literal }
-{
-    let mut from = 0;
-    let mut to = clause.literals.len();
-    'places: while from < to {
-        let middle = from + (to - from) / 2;
-        if variable(clause.literals[middle]) < variable(literal) {
-            from = middle + 1;
-        } else {
-            to = middle;
-        }
-    }
-    if from >= clause.literals.len() {
-        return false;
-    }
-    if clause.literals[from] == literal {
-        return true;
-    }
-    false
-}
-
 /// Is the literal of the pivot, or one of the clause?
-fn is_known(clause: &Clause, literal: i64, pivot: u64) -> bool
-    ensures { IsTrue result → variable_of literal ≢ pivot → Contains clause.now.literals.items literal }
+fn is_known(marks: &MarkedClause, literal: i64, pivot: u64) -> bool
+    requires { 0 < variable_of literal }
+    ensures { IsTrue result → variable_of literal ≢ pivot → Contains (marked marks.now.table.items) literal }
 {
     if variable(literal) == pivot {
         return true;
     }
-    has(clause, literal)
+    marks.has(literal)
 }
 
 /// Has the clause each literal of another one but that of the pivot?
-fn is_within(other: &Clause, clause: &Clause, pivot: u64) -> bool
-    ensures { IsTrue result → (l : ℤ) → Contains other.now.literals.items l → variable_of l ≢ pivot → Contains clause.now.literals.items l }
+fn is_within(other: &Clause, marks: &MarkedClause, pivot: u64) -> bool
+    ensures { IsTrue result → (l : ℤ) → Contains other.now.literals.items l → variable_of l ≢ pivot → Contains (marked marks.now.table.items) l }
 {
     for place in 0..other.literals.len() {
-        if !is_known(clause, other.literals[place], pivot) {
+        if !is_known(marks, other.literals[place], pivot) {
             return false;
         }
     }
@@ -64,13 +45,13 @@ fn resolve_within(
     clauses: &Clauses,
     lines: &[LogLine],
     trail: &Trail,
-    replay: &mut Replay,
+    marks: &mut MarkedClause,
     pivots: &mut Vec<(u64, u64)>,
     place: usize,
     bound: usize,
 ) -> Result<(), Memory>
-    ensures part { OnOk result (IsPartFrom trail.now.places.items bound replay.old.current.literals.items replay.new.current.literals.items) }
-    ensures chain { OnOk result (ResolvesOn (literal_lists clauses.now.list.items ++ results lines.now) pivots.old.items replay.old.current.literals.items pivots.new.items replay.new.current.literals.items) }
+    ensures part { OnOk result (IsPartFrom trail.now.places.items bound (marked marks.old.table.items) (marked marks.new.table.items)) }
+    ensures chain { OnOk result (ResolvesOn (literal_lists clauses.now.list.items ++ results lines.now) pivots.old.items (marked marks.old.table.items) pivots.new.items (marked marks.new.table.items)) }
 {
     if place == 0 {
         return Ok(());
@@ -86,10 +67,10 @@ fn resolve_within(
     let Some(other) = clause_at(clauses, lines, number) else {
         return Ok(());
     };
-    if !is_within(other, &replay.current, pivot) {
+    if !is_within(other, marks, pivot) {
         return Ok(());
     }
-    if !replay.resolve_with(other, pivot)? {
+    if !marks.resolve_with(other, pivot)? {
         return Ok(());
     }
     match pivots.push((pivot, number)) {
@@ -104,27 +85,29 @@ fn shorten(
     clauses: &Clauses,
     lines: &[LogLine],
     trail: &Trail,
-    replay: &mut Replay,
+    marks: &mut MarkedClause,
     pivots: &mut Vec<(u64, u64)>,
     places: &[usize],
     bound: usize,
 ) -> Result<(), Memory>
-    ensures part { OnOk result (IsPartFrom trail.now.places.items bound replay.old.current.literals.items replay.new.current.literals.items) }
-    ensures chain { OnOk result (ResolvesOn (literal_lists clauses.now.list.items ++ results lines.now) pivots.old.items replay.old.current.literals.items pivots.new.items replay.new.current.literals.items) }
+    ensures part { OnOk result (IsPartFrom trail.now.places.items bound (marked marks.old.table.items) (marked marks.new.table.items)) }
+    ensures chain { OnOk result (ResolvesOn (literal_lists clauses.now.list.items ++ results lines.now) pivots.old.items (marked marks.old.table.items) pivots.new.items (marked marks.new.table.items)) }
 {
     for index in 0..places.len() {
-        resolve_within(clauses, lines, trail, replay, pivots, places[index], bound)?;
+        resolve_within(clauses, lines, trail, marks, pivots, places[index], bound)?;
     }
     Ok(())
 }
 
 /// The places on the trail where a clause's variables became known, the latest one first.
-fn places_of(alloc: Global, clause: &[i64], trail: &Trail) -> Result<Vec<usize>, Memory>
-    requires { All (λ l. variable_of l < length trail.now.places.items) clause.now }
-{
+fn places_of(alloc: Global, marks: &MarkedClause, trail: &Trail) -> Result<Vec<usize>, Memory> {
     let mut places = Vec::new(alloc);
-    for place in 0..clause.len() {
-        match places.push(trail.places[variable(clause[place]) as usize]) {
+    for index in 0..marks.touched.len() {
+        let v = marks.touched[index];
+        if !marks.mentions(v as u64) {
+            continue;
+        }
+        match places.push(place_at(&trail.places, v)) {
             Ok(()) => {}
             Err(_) => return Err(Memory),
         }
@@ -134,6 +117,13 @@ fn places_of(alloc: Global, clause: &[i64], trail: &Trail) -> Result<Vec<usize>,
     Ok(places)
 }
 
+/// A clause that was learnt, as a line of a log, and the two latest places of its literals.
+#[derive(Debug, Drop)]
+pub struct Learnt {
+    pub line: LogLine,
+    pub latest: Latest,
+}
+
 /// Resolves a clause that is false back to one with a single literal of the last decision, or to the empty
 /// clause where there is no decision, and leaves out the literals that the others make false.
 pub fn learn(
@@ -141,6 +131,7 @@ pub fn learn(
     clauses: &Clauses,
     lines: &[LogLine],
     trail: &Trail,
+    marks: &mut MarkedClause,
     conflict: u64,
 ) -> Result<Learnt, Memory>
     requires searching { IsSearching (literal_lists clauses.now.list.items ++ results lines.now) trail.now.literals.items trail.now.starts.items trail.now.reasons.items }
@@ -152,33 +143,16 @@ pub fn learn(
     ensures one_behind { IfOk result (λ learnt. 0 < length trail.now.starts.items → (last_start trail.now.starts.items < learnt.latest.last) × (learnt.latest.second ≤ last_start trail.now.starts.items)) }
     ensures strengthens { IfOk result (λ learnt. 0 < length trail.now.starts.items → StrengthensPropagation (literal_lists clauses.now.list.items ++ results lines.now) learnt.line.result.literals.items) }
 {
-    let long = resolve_back(alloc, clauses, lines, trail, conflict)?;
-    let places = places_of(alloc, &long.line.result.literals, trail)?;
+    let mut pivots = resolve_back(alloc, clauses, lines, trail, marks, conflict)?;
+    let places = places_of(alloc, marks, trail)?;
     let bound = level_bound(trail);
-    let Learnt { line, latest: _ } = long;
-    let LogLine {
-        first,
+    shorten(clauses, lines, trail, marks, &mut pivots, &places, bound)?;
+    let result = marks.clause(alloc)?;
+    let latest = latest_of(&result.literals, trail);
+    let line = LogLine {
+        first: conflict,
         pivots,
         result,
-    } = line;
-    let mut replay = Replay::new(alloc);
-    replay.current = result;
-    let mut pivots = pivots;
-    shorten(
-        clauses,
-        lines,
-        trail,
-        &mut replay,
-        &mut pivots,
-        &places,
-        bound,
-    )?;
-    let Replay { current, spare: _ } = replay;
-    let latest = latest_of(&current.literals, trail);
-    let line = LogLine {
-        first,
-        pivots,
-        result: current,
     };
     Ok(Learnt { line, latest })
 }

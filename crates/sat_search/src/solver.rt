@@ -13,6 +13,7 @@ use crate::found::Found;
 use crate::learning::{Latest, backjump};
 use crate::restarts::Restarts;
 use crate::shortening::learn;
+use chain_resolution::MarkedClause;
 use clause_db::{Clause, Clauses, Log, LogLine, Memory, largest_variable};
 use std::alloc::Global;
 use unit_propagation::{Trail, Value, Watches};
@@ -149,13 +150,14 @@ fn search_over<D: Decides>(
     let mut trail = Trail::new(alloc, variables as usize)?;
     let mut watches = Watches::over(alloc, clauses, variables as usize)?;
     let mut restarts = Restarts::new();
+    let mut marks = MarkedClause::new(alloc);
     let mut log = Log {
         lines: Vec::new(alloc),
     };
     'steps: loop {
         match watches.propagate(clauses, &log.lines, &mut trail)? {
             Some(conflict) => {
-                let learnt = learn(alloc, clauses, &log.lines, &trail, conflict)?;
+                let learnt = learn(alloc, clauses, &log.lines, &trail, &mut marks, conflict)?;
                 let latest = learnt.latest;
                 if latest.last == 0 {
                     push_line(&mut log, learnt.line)?;

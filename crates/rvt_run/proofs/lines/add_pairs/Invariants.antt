@@ -1,6 +1,7 @@
 use Rattle.std.proofs.Common.{◌≡◌, ◌++◌, drop}
 use Rattle.std.specs.Prelude.{map}
-use Rattle.rvt_run.specs.Report.{said, pair_lines}
+use Rattle.rvt_run.specs.Pairs.{said}
+use Rattle.rvt_run.specs.Report.{pair_lines}
 use Rattle.rvt_run.proofs.lines.add_pairs.Given as goal
 
 -- the lines so far, and those of the pairs that are left

@@ -1,0 +1,31 @@
+//! The functions that are called in initializers.
+
+ghost use Rattle.std.specs.Prelude.{◌≡◌, ◌++◌, IfOk};
+ghost use Rattle.rvt_tree.specs.Views.{init_view, inits_view};
+ghost use Rattle.body_calls.specs.Calls.{initializer_calls, members_calls};
+
+use crate::expressions::collect_from_expression;
+use rvt_tree::{Init, Inits};
+use std::alloc::AllocError;
+
+#[cycle(collect_from_initializer)]
+pub fn collect_from_initializer(init: &Init, into: &mut Vec<u32>) -> Result<(), AllocError>
+    ensures { IfOk result (λ _. into.new.items ≡ into.old.items ++ initializer_calls (init_view init.now)) }
+{
+    match init {
+        Init::Value(e) => collect_from_expression(e, into),
+        Init::Braces(members) => collect_from_members(members, into),
+    }
+}
+
+#[cycle(collect_from_initializer)]
+fn collect_from_members(members: &Inits, into: &mut Vec<u32>) -> Result<(), AllocError>
+    ensures { IfOk result (λ _. into.new.items ≡ into.old.items ++ members_calls (inits_view members.now)) }
+{
+    let mut rest = members;
+    while let Inits::More(item, _, more) = rest {
+        collect_from_initializer(item, into)?;
+        rest = more;
+    }
+    Ok(())
+}

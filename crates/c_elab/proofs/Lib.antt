@@ -1,0 +1,7 @@
+mod FlagLists
+mod FunctionLists
+mod Lists
+mod ObjectLists
+mod Refused
+mod Wholes
+mod Zeros

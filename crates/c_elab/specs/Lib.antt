@@ -1,0 +1,3 @@
+pub mod LastRules
+pub mod LocalObjects
+pub mod Typed

@@ -1,0 +1,5 @@
+pub mod AddressLemmas
+pub mod ArgumentLemmas
+pub mod KindLemmas
+pub mod ValueLemmas
+pub mod WordLemmas

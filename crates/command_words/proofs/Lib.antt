@@ -1,0 +1,3 @@
+pub mod CommandLemmas
+pub mod Readings
+pub mod SpellingLemmas

@@ -1,0 +1,51 @@
+//! The options, and which commands take them.
+
+ghost use Rattle.std.specs.Prelude.{◌≡◌};
+ghost use Rattle.command_words.specs.Options.{has_value, takes};
+ghost use Rattle.command_words.specs.Spellings.{flag_named};
+
+/// What a command does.
+#[derive(Clone, Copy, Debug, PartialEq, Eq)]
+pub enum Verb {
+    Compare,
+    Run,
+}
+
+/// An option.
+#[derive(Clone, Copy, Debug, PartialEq, Eq)]
+pub enum Flag {
+    Steps,
+}
+
+impl Verb {
+    /// Whether the command takes this option.
+    pub fn takes(self, flag: Flag) -> bool
+        ensures { result ≡ takes self flag }
+    {
+        match (self, flag) {
+            (Verb::Compare, Flag::Steps) => false,
+            (Verb::Run, Flag::Steps) => true,
+        }
+    }
+}
+
+impl Flag {
+    /// The option of this name.
+    pub fn named(name: &str) -> Option<Flag>
+        ensures { result ≡ flag_named name.now }
+    {
+        if name == "steps" {
+            return Some(Flag::Steps);
+        }
+        None
+    }
+
+    /// Whether the option has a value.
+    pub fn has_value(self) -> bool
+        ensures { result ≡ has_value self }
+    {
+        match self {
+            Flag::Steps => true,
+        }
+    }
+}

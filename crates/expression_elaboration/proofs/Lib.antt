@@ -1,0 +1,12 @@
+pub mod Caps
+pub mod Outcomes
+pub mod Results
+pub mod Suffixed
+pub mod CastChains
+pub mod Lists
+pub mod Depths
+pub mod ChainFaults
+pub mod Arms
+pub mod ArmFaults
+pub mod TypeSteps
+pub mod SizeArms

@@ -1,0 +1,4 @@
+pub mod TypeWords
+pub mod Extents
+pub mod Chains
+pub mod Views

@@ -1,0 +1,3 @@
+mod ConstantSteps
+mod Extensions
+mod Rules

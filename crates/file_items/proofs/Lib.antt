@@ -1,0 +1,8 @@
+mod BodyBlocks
+mod DefinitionSteps
+mod Extensions
+mod HeaderSteps
+mod OutermostViews
+mod ParametersAgain
+mod Redeclared
+mod Steps

@@ -1,0 +1,2 @@
+pub mod FunctionHeaders
+pub mod Compounds

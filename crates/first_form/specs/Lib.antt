@@ -1,6 +1,0 @@
-pub mod Grammar
-pub mod GrammarHolds
-pub mod Actions
-pub mod Shown
-pub mod Source
-pub mod Texts

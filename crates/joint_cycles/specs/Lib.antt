@@ -1,0 +1,2 @@
+pub mod JointCalls
+pub mod Owners

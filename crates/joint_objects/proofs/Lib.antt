@@ -1,0 +1,5 @@
+pub mod SoughtLemmas
+pub mod KeyLemmas
+pub mod DeclarationLemmas
+pub mod LoopLemmas
+pub mod TallyLemmas

@@ -1,0 +1,8 @@
+use Rattle.std.proofs.Common.{◌≡◌, ap, ◌∙◌}
+use Rattle.joint_objects.specs.Indexes.{keys_view}
+use Rattle.joint_objects.specs.Names.{pair_views}
+use Rattle.joint_objects.proofs.KeyLemmas.{on_ok, ours_numbered}
+use Rattle.joint_objects.proofs.names.our_numbers.Goals as goal
+
+pub returns : goal.returns
+returns c = on_ok c.numbers.result (λ table are. ours_numbered table c.as_slice.result.now (pair_views c.args.pairs.now) are (ap keys_view c.as_slice.ensures.value ∙ c.in_ok-keys.ensures)) c.numbers.ensures

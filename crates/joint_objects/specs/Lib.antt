@@ -1,0 +1,12 @@
+pub mod Sides
+pub mod Sought
+pub mod StructTypes
+pub mod Globals
+pub mod Locals
+pub mod Extras
+pub mod JointObjects
+pub mod Indexes
+pub mod Names
+pub mod Counts
+pub mod Examples
+pub mod Tallies

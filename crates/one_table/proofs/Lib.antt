@@ -1,0 +1,4 @@
+pub mod Numbered
+pub mod Partners
+pub mod Plans
+pub mod Stands

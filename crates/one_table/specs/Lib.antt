@@ -1,0 +1,4 @@
+pub mod Names
+pub mod Candidates
+pub mod Tables
+pub mod Twins

@@ -1,0 +1,3 @@
+pub mod RenamedTrees
+pub mod Renamings
+pub mod TurnedLists

@@ -1,0 +1,10 @@
+mod BlockViews
+mod Extensions
+mod Steps
+mod Lists
+mod GroupSteps
+mod Bodies
+mod Headers
+mod Declarators
+mod Depths
+mod Arms

@@ -1,0 +1,5 @@
+pub mod Conjunctions
+pub mod Assignments
+pub mod SameBits
+pub mod Ripples
+pub mod Tests

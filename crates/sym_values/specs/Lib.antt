@@ -1,0 +1,3 @@
+pub mod Valuations
+pub mod Values
+pub mod Gates

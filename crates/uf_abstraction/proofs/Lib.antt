@@ -1,0 +1,6 @@
+pub mod FirstEntries
+pub mod Lookups
+pub mod Functions
+pub mod Questions
+pub mod FreshAnswers
+pub mod FreshSteps

@@ -1,0 +1,4 @@
+pub mod Applications
+pub mod Congruence
+pub mod Applying
+pub mod Names

@@ -1,0 +1,24 @@
+//! What applications and their congruence give, as laws: functions without a body.
+
+ghost use Rattle.uf_abstraction.specs.Applying.{ApplyLaw, KeptLaw};
+ghost use Rattle.uf_abstraction.specs.Congruence.{FunctionsLaw, TableLaw};
+
+/// What an application adds.
+pub fn applying()
+    ensures { ApplyLaw }
+{}
+
+/// Applications stay laid out, and their literals in the circuit.
+pub fn kept()
+    ensures { KeptLaw }
+{}
+
+/// Congruent applications are functions.
+pub fn congruence()
+    ensures { FunctionsLaw }
+{}
+
+/// Where the applications are functions, the table that they make answers each call as they do.
+pub fn table()
+    ensures { TableLaw }
+{}

@@ -1,0 +1,5 @@
+int count;
+
+void step(void) { count++; }
+
+int twice(int x) { return 2 * x; }

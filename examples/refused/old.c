@@ -1,0 +1,6 @@
+static int total;
+
+void add(int value)
+{
+    total += value;
+}
