@@ -14,6 +14,3 @@ pub use fault::{Cause, Fault};
 pub use grammar::{Action, CGrammar, Class, Line};
 pub use reader::steps;
 pub use terminals::text;
-
-#[cfg(test)]
-mod tests;

@@ -6,8 +6,6 @@ mod faults;
 mod layouts;
 mod plans;
 mod sizes;
-#[cfg(test)]
-mod tests;
 
 pub use faults::TypeFault;
 pub use layouts::layout;

@@ -14,6 +14,3 @@ mod tokens;
 pub use faults::{Cause, Fault};
 pub use lexer::lex;
 pub use tokens::{Place, Token, Tokens};
-
-#[cfg(test)]
-mod tests;

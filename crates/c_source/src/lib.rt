@@ -6,6 +6,3 @@ mod refused;
 
 pub use reader::read;
 pub use refused::{Refusal, Refused};
-
-#[cfg(test)]
-mod tests;

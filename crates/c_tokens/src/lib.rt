@@ -12,6 +12,3 @@ mod tokens;
 pub use bytes::{is_digit, is_letter, is_name_byte, is_space, is_text_byte};
 pub use front::{Front, NoToken, first_token};
 pub use tokens::{Keyword, Punctuator, TokenClass};
-
-#[cfg(test)]
-mod tests;

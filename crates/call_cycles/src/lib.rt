@@ -7,8 +7,6 @@ mod bodies;
 mod cycles;
 mod notes;
 mod orders;
-#[cfg(test)]
-mod tests;
 
 pub use addresses::address_on_cycle;
 pub use bodies::missing_body;

@@ -6,6 +6,3 @@ mod marked;
 mod table;
 
 pub use marked::MarkedClause;
-
-#[cfg(test)]
-mod tests;

@@ -4,8 +4,6 @@
 mod listing;
 mod needs;
 mod numbers;
-#[cfg(test)]
-mod tests;
 mod writing;
 
 pub use listing::clauses;

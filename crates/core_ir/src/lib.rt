@@ -4,8 +4,6 @@
 mod calls;
 mod cores;
 pub mod laws;
-#[cfg(test)]
-mod tests;
 mod units;
 
 pub use calls::{Memory, all_calls, calls_of};

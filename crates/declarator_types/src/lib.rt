@@ -8,8 +8,6 @@ mod lengths;
 mod members;
 mod shapes;
 mod sorts;
-#[cfg(test)]
-mod tests;
 mod values;
 
 pub use contents::contents_of;

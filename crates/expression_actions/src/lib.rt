@@ -17,6 +17,3 @@ pub use kept_tokens::{Kept, word};
 pub use operand_stacks::Operands;
 pub use token_words::{infix_of, prefix_of, setting_of, step_of, type_word_of};
 pub use type_stacks::Types;
-
-#[cfg(test)]
-mod tests;

@@ -6,8 +6,6 @@ mod expressions;
 mod initializers;
 mod statements;
 mod tables;
-#[cfg(test)]
-mod tests;
 mod turned;
 mod variables;
 

@@ -11,6 +11,3 @@ mod solver;
 
 pub use found::Found;
 pub use solver::search;
-
-#[cfg(test)]
-mod tests;

@@ -9,6 +9,3 @@ mod watches;
 
 pub use trail::{Trail, Value};
 pub use watches::{Watched, Watches};
-
-#[cfg(test)]
-mod tests;
