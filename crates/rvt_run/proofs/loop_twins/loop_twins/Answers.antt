@@ -12,6 +12,6 @@ returns c =
     let old = c.args.old.now in
     let new = c.args.new.now in
     let twins_are : AreTwinsOf old new c.in-Some.twins =
-        subst (λ (found : Option Pairing). MatchOption found (HaveOneTable (candidates_of old new) old new → ⊥) (λ twins. AreTwinsOf old new twins)) c.in-Some.is c.in_ok-twins.ensures in
+    subst (λ (found : Option Pairing). MatchOption found (HaveOneTable (candidates_of old new) old new → ⊥) (λ twins. AreTwinsOf old new twins)) c.in-Some.is c.in_ok-twins.ensures in
     greatest_is old new c.in-Some.twins c.take_out_renamed.new.pairing c.closed_twins.result twins_are c.in_ok-take_out_renamed.ensures
     c.closed_twins.ensures.closed c.closed_twins.ensures.within c.closed_twins.ensures.greatest
