@@ -4,7 +4,7 @@ use Rattle.std.proofs.lemmas.List.{append-nil}
 use Rattle.rvt_tree.specs.declared.pairings.Pairing.{Pairing}
 use Rattle.rvt_tree.specs.declared.programs.Function.{Function}
 use Rattle.rvt_run.specs.declared.pairs.Verdict.{Verdict}
-use Rattle.rvt_run.specs.Pairs.{PairVerdict, ArePairs, no_more, skipped, paired, partner_of, is_twin, IsVerdict}
+use Rattle.rvt_run.specs.Pairs.{PairVerdict, ArePairs, no_more, skipped, paired, AreLoops, partner_of, is_twin, IsVerdict}
 
 module _ (pairing : Pairing) (new old : List Function) (twins : Option Pairing) (Whole : List PairVerdict → Type 0) where
   -- with the pairs of the functions from here on these are the whole
@@ -22,12 +22,13 @@ module _ (pairing : Pairing) (new old : List Function) (twins : Option Pairing) 
   without_partner i f made low is none leads rest pairs =
       leads rest (subst (λ (fs : List Function). ArePairs pairing new twins i fs rest) (sym (from_here i f low is)) (skipped i f (drop (i + 1) old) rest none pairs))
 
-  -- one with a partner adds its verdict
-  pub with_partner : (i : ℕ) (f g : Function) (verdict : Verdict) (made : List PairVerdict) → i < length old → f ≡ get_or old i f → partner_of new f ≡ Some g →
-      IsVerdict pairing f g (is_twin twins i) verdict → Leads i made → Leads (i + 1) (made ++ (f.name, verdict) ∷ [])
-  with_partner i f g verdict made low is some judged leads rest pairs =
-      subst Whole (sym (append_assoc made ((f.name, verdict) ∷ []) rest))
-      (leads ((f.name, verdict) ∷ rest) (subst (λ (fs : List Function). ArePairs pairing new twins i fs ((f.name, verdict) ∷ rest)) (sym (from_here i f low is)) (paired i f (drop (i + 1) old) rest g verdict some judged pairs)))
+  -- one with a partner adds its verdict, and those of its loops
+  pub with_partner : (i : ℕ) (f g : Function) (verdict : Verdict) (loops made : List PairVerdict) → i < length old → f ≡ get_or old i f → partner_of new f ≡ Some g →
+      IsVerdict pairing f g (is_twin twins i) verdict → AreLoops pairing f g (is_twin twins i) loops → Leads i made → Leads (i + 1) ((made ++ (f.name, None, verdict) ∷ []) ++ loops)
+  with_partner i f g verdict loops made low is some judged are_loops leads rest pairs =
+      subst Whole (sym (append_assoc (made ++ (f.name, None, verdict) ∷ []) loops rest ∙ append_assoc made ((f.name, None, verdict) ∷ []) (loops ++ rest)))
+      (leads ((f.name, None, verdict) ∷ (loops ++ rest))
+      (subst (λ (fs : List Function). ArePairs pairing new twins i fs ((f.name, None, verdict) ∷ (loops ++ rest))) (sym (from_here i f low is)) (paired i f (drop (i + 1) old) rest g verdict loops some judged are_loops pairs)))
 
   -- at the end these are the whole
   pub all_paired : (i : ℕ) (made : List PairVerdict) → drop i old ≡ [] → Leads i made → Whole made

@@ -1,11 +1,9 @@
 -- Each line of an answer is one line.
-use Rattle.std.proofs.Common.{◌≡◌, ◌≢◌, ℕ, suc, ◌+◌, ◌-◌, ◌^◌, ◌<◌, ◌≤◌, Bool, true, false, if◌then◌else◌, List, [], ◌∷◌, ◌++◌, length, Option, refl, sym, ◌∙◌, ap, subst, arith}
+use Rattle.std.proofs.Common.{◌≡◌, ◌≢◌, ℕ, suc, ◌+◌, ◌-◌, ◌^◌, ◌<◌, ◌≤◌, Bool, true, false, if◌then◌else◌, List, [], ◌∷◌, ◌++◌, length, Option, Some, None, refl, sym, ◌∙◌, ap, subst, arith}
 use Rattle.std.specs.Prelude.{◌==◌, codes, cond, All}
 use Rattle.std.specs.Fmt.{decimal}
 use Rattle.std.proofs.lemmas.Bool.{eqb-true}
-use Rattle.std.proofs.lemmas.Fmt.{decimal_is_IsNumeral}
-use Rattle.std.specs.Char.{digit_value}
-use Rattle.std.specs.Str.Parse.{AllDigits}
+use Rattle.std.proofs.lemmas.List.{map-append}
 use Rattle.std.proofs.lemmas.List.Elements.{All-nil, All-cons, All-append}
 use Rattle.rvt_tree.specs.declared.pairings.Pairing.{Pairing}
 use Rattle.rvt_tree.specs.declared.programs.Function.{Function}
@@ -13,10 +11,12 @@ use Rattle.rvt_tree.specs.declared.programs.Program.{Program}
 use Rattle.rvt_run.specs.declared.pairs.Verdict.{Verdict}
 use Rattle.rvt_run.specs.declared.pairs.Verdict.TheVariants.{Twin, Interface, Bodies}
 use Rattle.rvt_run.specs.Answer.{IsLine, line, no_command}
-use Rattle.rvt_run.specs.Pairs.{PairVerdict, ArePairs, no_more, skipped, paired, is_alone}
-use Rattle.rvt_run.specs.Report.{verdict_text, pair_line, pair_lines, only_lines, counts_text, counts_of, full_among, is_full, report_lines}
+use Rattle.loop_interfaces.specs.declared.interfaces.LoopInterface.{LoopInterface}
+use Rattle.rvt_run.specs.Pairs.{PairVerdict, ArePairs, no_more, skipped, paired, AreLoopPairs, units_alone, is_twin}
+use Rattle.rvt_run.specs.Report.{verdict_text, unit_text, unit_lines, pair_line, pair_lines, only_lines, counts_text, counts_of, full_among, report_lines}
 use Rattle.rvt_run.specs.Texts.{HasNoLineEnd}
 use Rattle.rvt_run.specs.Words.{IsPlain}
+use Rattle.rvt_run.proofs.Digits.{AreDigits, decimal_are}
 
 -- ---- texts without line ends
 
@@ -44,15 +44,12 @@ literal (b ∷ bytes) is = cases (b == 10) refl (literal bytes)
     cases true found later = let wrong : false ≡ true = sym (ap (λ (c : Bool). if c then false else one_line_text bytes) found) ∙ is in cc
     cases false found later = (found, later (sym (ap (λ (c : Bool). if c then false else one_line_text bytes) found) ∙ is))
 
-digits_none : (bytes : List ℕ) → AllDigits 10 bytes → HasNoLineEnd bytes
+digits_none : (bytes : List ℕ) → AreDigits bytes → HasNoLineEnd bytes
 digits_none [] all = tt
-digits_none (b ∷ bytes) all = (other_byte b (λ ten. no_digit b ten all.0), digits_none bytes all.1)
-  where
-    no_digit : (b : ℕ) → b ≡ 10 → digit_value b < 10 → ⊥
-    no_digit b ten low = let bad : digit_value 10 < 10 = subst (λ (n : ℕ). digit_value n < 10) ten low in omega (arith, bad)
+digits_none (b ∷ bytes) all = (other_byte b (λ ten. omega (arith, ten, all.0.0)), digits_none bytes all.1)
 
-pub number_none : (n : ℕ) → n < 2 ^ 64 → HasNoLineEnd (decimal n)
-number_none n low = digits_none (decimal n) (decimal_is_IsNumeral n low).0.1
+pub number_none : (n : ℕ) → HasNoLineEnd (decimal n)
+number_none n = digits_none (decimal n) (decimal_are n)
 
 -- a word that may name a file
 printing_none : (word : List ℕ) → All (λ byte. (32 ≤ byte) × (byte ≢ 127)) word → HasNoLineEnd word
@@ -91,43 +88,47 @@ rest_none f fs none k d h = none (suc k) d (omega (arith, h))
 first_none : (f : Function) (fs : List Function) → NamesNone (f ∷ fs) → HasNoLineEnd f.name
 first_none f fs none = none 0 f (omega arith)
 
+unit_none : (name : List ℕ) (number : Option ℕ) → HasNoLineEnd name → HasNoLineEnd (unit_text name number)
+unit_none name None none = none
+unit_none name (Some n) none = joined name (codes " loop " ++ decimal n) none (joined (codes " loop ") (decimal n) (literal (codes " loop ") refl) (number_none n))
+
+pair_shaped : (name : List ℕ) (number : Option ℕ) (verdict : Verdict) → HasNoLineEnd name → IsLine (pair_line (name, number, verdict))
+pair_shaped name number verdict none = line_of (unit_text name number) (verdict_text verdict) (unit_none name number none) (verdict_none verdict)
+
+loops_shaped : (pairing : Pairing) (f g : Function) (are_twins : Bool) (loops others : List LoopInterface) (pairs : List PairVerdict) → AreLoopPairs pairing f g are_twins loops others pairs → HasNoLineEnd f.name → All IsLine (pair_lines pairs)
+loops_shaped pairing f g are_twins [] others pairs none plain = subst (λ (l : List PairVerdict). All IsLine (pair_lines l)) (sym none) (All-nil IsLine)
+loops_shaped pairing f g are_twins (a ∷ loops) [] pairs none plain = subst (λ (l : List PairVerdict). All IsLine (pair_lines l)) (sym none) (All-nil IsLine)
+loops_shaped pairing f g are_twins (a ∷ loops) (b ∷ others) [] are plain = absurd are
+loops_shaped pairing f g are_twins (a ∷ loops) (b ∷ others) (p ∷ pairs) are plain =
+    All-cons IsLine (pair_line p) (pair_lines pairs) (pair_shaped p.0 p.1 p.2 (subst HasNoLineEnd (sym are.0) plain)) (loops_shaped pairing f g are_twins loops others pairs are.4 plain)
+
 pairs_shaped : (pairing : Pairing) (new : List Function) (twins : Option Pairing) (i : ℕ) (fs : List Function) (pairs : List PairVerdict) → ArePairs pairing new twins i fs pairs → NamesNone fs → All IsLine (pair_lines pairs)
 pairs_shaped pairing new twins _ _ _ (no_more i) none = All-nil IsLine
 pairs_shaped pairing new twins _ _ _ (skipped i f fs pairs alone rest) none = pairs_shaped pairing new twins (i + 1) fs pairs rest (rest_none f fs none)
-pairs_shaped pairing new twins _ _ _ (paired i f fs pairs g verdict some judged rest) none =
-    All-cons IsLine (pair_line (f.name, verdict)) (pair_lines pairs) (line_of f.name (verdict_text verdict) (first_none f fs none) (verdict_none verdict))
-    (pairs_shaped pairing new twins (i + 1) fs pairs rest (rest_none f fs none))
+pairs_shaped pairing new twins _ _ _ (paired i f fs pairs g verdict loops some judged are_loops rest) none =
+    All-cons IsLine (pair_line (f.name, None, verdict)) (pair_lines (loops ++ pairs)) (pair_shaped f.name None verdict (first_none f fs none))
+    (subst (All IsLine) (sym (map-append pair_line loops pairs)) (All-append IsLine (pair_lines loops) (pair_lines pairs)
+    (loops_shaped pairing f g (is_twin twins i) are_loops.old are_loops.new_side loops are_loops.are_pairs (first_none f fs none)) (pairs_shaped pairing new twins (i + 1) fs pairs rest (rest_none f fs none))))
+
+units_shaped : (word : List ℕ) → HasNoLineEnd word → (name : List ℕ) → HasNoLineEnd name → (numbers : List (Option ℕ)) → All IsLine (unit_lines word name numbers)
+units_shaped word plain name none [] = All-nil IsLine
+units_shaped word plain name none (n ∷ numbers) =
+    All-cons IsLine (word ++ unit_text name n ++ 10 ∷ []) (unit_lines word name numbers) (line_of word (unit_text name n) plain (unit_none name n none)) (units_shaped word plain name none numbers)
 
 only_shaped : (word : List ℕ) → HasNoLineEnd word → (others fs : List Function) → NamesNone fs → All IsLine (only_lines word others fs)
 only_shaped word plain others [] none = All-nil IsLine
-only_shaped word plain others (f ∷ fs) none = cases (is_alone others f) (only_shaped word plain others fs (rest_none f fs none))
-  where
-    cases : (b : Bool) → All IsLine (only_lines word others fs) → All IsLine (cond b ((word ++ f.name ++ 10 ∷ []) ∷ only_lines word others fs) (only_lines word others fs))
-    cases true more = All-cons IsLine (word ++ f.name ++ 10 ∷ []) (only_lines word others fs) (line_of word f.name plain (first_none f fs none)) more
-    cases false more = more
+only_shaped word plain others (f ∷ fs) none =
+    All-append IsLine (unit_lines word f.name (units_alone others f)) (only_lines word others fs) (units_shaped word plain f.name (first_none f fs none) (units_alone others f)) (only_shaped word plain others fs (rest_none f fs none))
 
 -- ---- counts
 
-pairs_few : (pairing : Pairing) (new : List Function) (twins : Option Pairing) (i : ℕ) (fs : List Function) (pairs : List PairVerdict) → ArePairs pairing new twins i fs pairs → length pairs ≤ length fs
-pairs_few pairing new twins _ _ _ (no_more i) = omega arith
-pairs_few pairing new twins _ _ _ (skipped i f fs pairs alone rest) = let few : length pairs ≤ length fs = pairs_few pairing new twins (i + 1) fs pairs rest in omega (arith, few)
-pairs_few pairing new twins _ _ _ (paired i f fs pairs g verdict some judged rest) = let few : length pairs ≤ length fs = pairs_few pairing new twins (i + 1) fs pairs rest in omega (arith, few)
-
-full_few : (pairs : List PairVerdict) → full_among pairs ≤ length pairs
-full_few [] = omega arith
-full_few (pair ∷ rest) = cases (is_full pair.1) (full_few rest)
-  where
-    cases : (b : Bool) → full_among rest ≤ length rest → cond b 1 0 + full_among rest ≤ suc (length rest)
-    cases true low = omega (arith, low)
-    cases false low = omega (arith, low)
-
-counts_shaped : (full all : ℕ) → full ≤ all → all ≤ 2 ^ 32 → IsLine (counts_of full all)
-counts_shaped full all low few =
+counts_shaped : (full all : ℕ) → IsLine (counts_of full all)
+counts_shaped full all =
     line_of (codes "pairs ") (counts_text full all) (literal (codes "pairs ") refl)
-    (joined (decimal all) (codes " full " ++ (decimal full ++ (codes " partial 0 different 0 unknown " ++ decimal (all - full)))) (number_none all (omega (arith, few)))
+    (joined (decimal all) (codes " full " ++ (decimal full ++ (codes " partial 0 different 0 unknown " ++ decimal (all - full)))) (number_none all)
     (joined (codes " full ") (decimal full ++ (codes " partial 0 different 0 unknown " ++ decimal (all - full))) (literal (codes " full ") refl)
-    (joined (decimal full) (codes " partial 0 different 0 unknown " ++ decimal (all - full)) (number_none full (omega (arith, low, few)))
-    (joined (codes " partial 0 different 0 unknown ") (decimal (all - full)) (literal (codes " partial 0 different 0 unknown ") refl) (number_none (all - full) (omega (arith, few)))))))
+    (joined (decimal full) (codes " partial 0 different 0 unknown " ++ decimal (all - full)) (number_none full)
+    (joined (codes " partial 0 different 0 unknown ") (decimal (all - full)) (literal (codes " partial 0 different 0 unknown ") refl) (number_none (all - full))))))
 
 -- each line of a report
 pub report_shaped : (old new : Program) (pairing : Pairing) (twins : Option Pairing) (pairs : List PairVerdict) → ArePairs pairing new.functions twins 0 old.functions pairs →
@@ -139,8 +140,7 @@ report_shaped old new pairing twins pairs are_pairs olds news few =
     let first : All IsLine (pair_lines pairs) = pairs_shaped pairing new.functions twins 0 old.functions pairs are_pairs olds in
     let second : All IsLine only_old = only_shaped (codes "only old: ") (literal (codes "only old: ") refl) new.functions old.functions olds in
     let third : All IsLine only_new = only_shaped (codes "only new: ") (literal (codes "only new: ") refl) old.functions new.functions news in
-    let within : length pairs ≤ length old.functions = pairs_few pairing new.functions twins 0 old.functions pairs are_pairs in
-    let last : IsLine counts = counts_shaped (full_among pairs) (length pairs) (full_few pairs) (omega (arith, within, few)) in
+    let last : IsLine counts = counts_shaped (full_among pairs) (length pairs) in
     All-append IsLine (pair_lines pairs ++ only_old ++ only_new) (counts ∷ []) (All-append IsLine (pair_lines pairs ++ only_old) only_new (All-append IsLine (pair_lines pairs) only_old first second) third) (only_this counts last)
 
 -- ---- other answers

@@ -12,7 +12,7 @@ use Rattle.rvt_edge.specs.Sink.{Grows, GrowsByPart}
 use Rattle.c_source.specs.declared.refused.Refusal.{Refusal}
 use Rattle.rvt_run.specs.Answer.{Answers, refused_at, refused, old_fault, old_long, new_fault, new_long, compared, Compares, old_refused, new_refused, reported, Writes, IsLine, line, no_command}
 use Rattle.rvt_run.specs.Headline.{lines_of, SaysFullTruly, IsFullInFiles}
-use Rattle.rvt_run.specs.Report.{IsName, IsTrueLine, full_line}
+use Rattle.rvt_run.specs.Report.{IsName, IsNumbered, IsTrueLine, unit_text, full_line}
 use Rattle.rvt_run.proofs.Placed.{placed_no_full}
 use Rattle.rvt_run.proofs.Split.{lines_of_concat, line_of_part}
 use Rattle.rvt_run.proofs.Truth.{same_end}
@@ -21,42 +21,42 @@ apart : (n front : List ℕ) (x : ℕ) → (n ++ (front ++ x ∷ [])) ++ 10 ∷ 
 apart n front x = ap (λ (l : List ℕ). l ++ 10 ∷ []) (sym (append_assoc n front (x ∷ []))) ∙ append_assoc (n ++ front) (x ∷ []) (10 ∷ [])
 
 -- a line that ends otherwise isn't that of a full pair
-other_end : (first front name : List ℕ) (byte : ℕ) → line first (front ++ byte ∷ []) ≡ full_line name → byte ≡ 110
-other_end first front name byte e =
-    same_end (first ++ front) (name ++ codes ": fully equivalent, twi") byte 110 (sym (apart first front byte) ∙ e ∙ apart name (codes ": fully equivalent, twi") 110)
+other_end : (first front name : List ℕ) (number : Option ℕ) (byte : ℕ) → line first (front ++ byte ∷ []) ≡ full_line name number → byte ≡ 110
+other_end first front name number byte e =
+    same_end (first ++ front) (unit_text name number ++ codes ": fully equivalent, twi") byte 110 (sym (apart first front byte) ∙ e ∙ apart (unit_text name number) (codes ": fully equivalent, twi") 110)
 
 -- one line whose text ends otherwise
-lone : (first front : List ℕ) (byte : ℕ) (name : List ℕ) → (byte ≡ 110 → ⊥) → Contains (line first (front ++ byte ∷ []) ∷ []) (full_line name) → ⊥
-lone first front byte name differs among = cases among.0 among.1 among.2
+lone : (first front : List ℕ) (byte : ℕ) (name : List ℕ) (number : Option ℕ) → (byte ≡ 110 → ⊥) → Contains (line first (front ++ byte ∷ []) ∷ []) (full_line name number) → ⊥
+lone first front byte name number differs among = cases among.0 among.1 among.2
   where
-    cases : (k : ℕ) → k < 1 → get_or (line first (front ++ byte ∷ []) ∷ []) k (full_line name) ≡ full_line name → ⊥
-    cases zero low is = differs (other_end first front name byte is)
+    cases : (k : ℕ) → k < 1 → get_or (line first (front ++ byte ∷ []) ∷ []) k (full_line name number) ≡ full_line name number → ⊥
+    cases zero low is = differs (other_end first front name number byte is)
     cases (suc k) low is = omega (arith, low)
 
 -- a refusal says nothing of a pair
-no_refusal : (file : List ℕ) (refusal : Refusal) (name : List ℕ) → IsName name → Contains (refused_at file refusal) (full_line name) → ⊥
-no_refusal file refusal name is_name among = cases among.0 among.1 among.2
+no_refusal : (file : List ℕ) (refusal : Refusal) (name : List ℕ) (number : Option ℕ) → IsName name → Contains (refused_at file refusal) (full_line name number) → ⊥
+no_refusal file refusal name number is_name among = cases among.0 among.1 among.2
   where
-    cases : (k : ℕ) → k < 1 → get_or (refused_at file refusal) k (full_line name) ≡ full_line name → ⊥
-    cases zero low is = placed_no_full file refusal name is_name is
+    cases : (k : ℕ) → k < 1 → get_or (refused_at file refusal) k (full_line name number) ≡ full_line name number → ⊥
+    cases zero low is = placed_no_full file refusal name number is_name is
     cases (suc k) low is = omega (arith, low)
 
 -- where a line of the answer says that a pair is fully equivalent, it is
-pub answer_true : (words : List (List ℕ)) (files : Option Files) (calls : List Call) (status : ℕ) (lines : List (List ℕ)) (name : List ℕ) → Answers words files calls status lines → IsName name →
-    Contains lines (full_line name) → IsFullInFiles words files name
-answer_true words files calls status lines name (refused absent) is_name among = absurd (no_pair among)
+pub answer_true : (words : List (List ℕ)) (files : Option Files) (calls : List Call) (status : ℕ) (lines : List (List ℕ)) (name : List ℕ) (number : Option ℕ) → Answers words files calls status lines → IsName name → IsNumbered number →
+    Contains lines (full_line name number) → IsFullInFiles words files name number
+answer_true words files calls status lines name number (refused absent) is_name low among = absurd (no_pair among)
   where
-    no_pair : Contains no_command (full_line name) → ⊥
-    no_pair among = lone [] (codes "rvt: the words are no comman") 100 name (λ e. omega (arith, e)) among
-answer_true words files calls status lines name (old_fault old new is) is_name among = absurd (lone old (codes ": cannot rea") 100 name (λ e. omega (arith, e)) among)
-answer_true words files calls status lines name (old_long old new is long) is_name among = absurd (lone old (codes ": too lon") 103 name (λ e. omega (arith, e)) among)
-answer_true words files calls status lines name (new_fault old new bytes is whole) is_name among = absurd (lone new (codes ": cannot rea") 100 name (λ e. omega (arith, e)) among)
-answer_true words files calls status lines name (new_long old new bytes is whole long) is_name among = absurd (lone new (codes ": too lon") 103 name (λ e. omega (arith, e)) among)
-answer_true words files calls status lines name (compared old new old_bytes new_bytes is old_told new_told compares) is_name among = by status lines compares among
+    no_pair : Contains no_command (full_line name number) → ⊥
+    no_pair among = lone [] (codes "rvt: the words are no comman") 100 name number (λ e. omega (arith, e)) among
+answer_true words files calls status lines name number (old_fault old new is) is_name low among = absurd (lone old (codes ": cannot rea") 100 name number (λ e. omega (arith, e)) among)
+answer_true words files calls status lines name number (old_long old new is long) is_name low among = absurd (lone old (codes ": too lon") 103 name number (λ e. omega (arith, e)) among)
+answer_true words files calls status lines name number (new_fault old new bytes is whole) is_name low among = absurd (lone new (codes ": cannot rea") 100 name number (λ e. omega (arith, e)) among)
+answer_true words files calls status lines name number (new_long old new bytes is whole long) is_name low among = absurd (lone new (codes ": too lon") 103 name number (λ e. omega (arith, e)) among)
+answer_true words files calls status lines name number (compared old new old_bytes new_bytes is old_told new_told compares) is_name low among = by status lines compares among
   where
-    by : (status : ℕ) (lines : List (List ℕ)) → Compares old new old_bytes new_bytes status lines → Contains lines (full_line name) → IsFullInFiles words files name
-    by status lines (old_refused refusal refuses none) among = absurd (no_refusal old refusal name is_name among)
-    by status lines (new_refused p refusal read refuses none) among = absurd (no_refusal new refusal name is_name among)
+    by : (status : ℕ) (lines : List (List ℕ)) → Compares old new old_bytes new_bytes status lines → Contains lines (full_line name number) → IsFullInFiles words files name number
+    by status lines (old_refused refusal refuses none) among = absurd (no_refusal old refusal name number is_name among)
+    by status lines (new_refused p refusal read refuses none) among = absurd (no_refusal new refusal name number is_name among)
     by status lines (reported p q p_read q_read report) among = record {
       old_name = old;
       new_name = new;
@@ -69,7 +69,7 @@ answer_true words files calls status lines name (compared old new old_bytes new_
       new = q;
       old_read = p_read;
       new_read = q_read;
-      pair = All-contains (IsTrueLine p q) lines (full_line name) report.truth among name is_name refl;
+      pair = All-contains (IsTrueLine p q) lines (full_line name number) report.truth among name number is_name low refl;
     }
 
 -- what was written behind these bytes
@@ -79,8 +79,8 @@ piece_is written text piece e = let same : written ++ text ≡ written ++ piece 
 -- a whole answer, or a first part of one
 pub spoken : (words : List (List ℕ)) (files : Option Files) (calls : List Call) (status result faults now : ℕ) (lines : List (List ℕ)) (before after : Option (List ℕ)) →
     Answers words files calls status lines → All IsLine lines → faults ≤ now → Writes before after faults now result status (concat lines) → SaysFullTruly words files before after
-spoken words files calls status result faults now lines before after answers shaped later writes written text name begun ended is_name among =
-    answer_true words files calls status lines name answers is_name in_lines
+spoken words files calls status result faults now lines before after answers shaped later writes written text name number begun ended is_name low among =
+    answer_true words files calls status lines name number answers is_name low in_lines
   where
     part : (n : ℕ) × (text ≡ take n (concat lines))
     part = elim (eq-or-lt_of_le later) [
@@ -92,15 +92,15 @@ spoken words files calls status result faults now lines before after answers sha
           (grown.0, piece_is written text (take grown.0 (concat lines)) (sym ended ∙ told)))
     ]
 
-    in_lines : Contains lines (full_line name)
+    in_lines : Contains lines (full_line name number)
     in_lines =
-        let of_part : Contains (lines_of (take part.0 (concat lines))) (full_line name) = subst (λ (t : List ℕ). Contains (lines_of t) (full_line name)) part.1 among in
-        subst (λ (ls : List (List ℕ)). Contains ls (full_line name)) (lines_of_concat lines shaped) (line_of_part part.0 (concat lines) [] (full_line name) of_part)
+        let of_part : Contains (lines_of (take part.0 (concat lines))) (full_line name number) = subst (λ (t : List ℕ). Contains (lines_of t) (full_line name number)) part.1 among in
+        subst (λ (ls : List (List ℕ)). Contains ls (full_line name number)) (lines_of_concat lines shaped) (line_of_part part.0 (concat lines) [] (full_line name number) of_part)
 
 -- nothing was written
 pub silent : (words : List (List ℕ)) (files : Option Files) (before : Option (List ℕ)) → SaysFullTruly words files before before
-silent words files before written text name begun ended is_name among =
+silent words files before written text name number begun ended is_name low among =
     let same : Some (written ++ text) ≡ Some (written ++ []) = sym ended ∙ begun ∙ ap Some (sym (append-nil written)) in
     let none : text ≡ [] = piece_is written text [] same in
-    let no : Contains (lines_of []) (full_line name) = subst (λ (t : List ℕ). Contains (lines_of t) (full_line name)) none among in
+    let no : Contains (lines_of []) (full_line name number) = subst (λ (t : List ℕ). Contains (lines_of t) (full_line name number)) none among in
     absurd (omega (arith, no.1))

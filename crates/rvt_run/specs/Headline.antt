@@ -6,7 +6,7 @@ use Rattle.rvt_tree.specs.declared.programs.Program.{Program}
 use Rattle.c_programs.specs.Readings.{IsReading}
 use Rattle.rvt_run.specs.Words.{IsCompare}
 use Rattle.rvt_run.specs.Answer.{IsWhole}
-use Rattle.rvt_run.specs.Report.{IsName, full_line, IsFullPair}
+use Rattle.rvt_run.specs.Report.{IsName, IsNumbered, full_line, IsFullPair}
 
 -- the whole lines of a text, each with its line end, where a line has begun with these bytes
 abbrev pub lines_from : List ℕ → List ℕ → List (List ℕ)
@@ -17,8 +17,9 @@ lines_from begun (byte ∷ bytes) = if byte == 10 then (begun ++ byte ∷ []) �
 abbrev pub lines_of : List ℕ → List (List ℕ)
 lines_of text = lines_from [] text
 
--- The words name two files; what the desk told of them are two programs, and the functions of this name are fully equivalent in them.
-pub record IsFullInFiles (words : List (List ℕ)) (files : Option Files) (name : List ℕ) : Type 0 where
+-- The words name two files; what the desk told of them are two programs, and the functions of this name, or the loops of them that carry
+-- this number, are fully equivalent in them.
+pub record IsFullInFiles (words : List (List ℕ)) (files : Option Files) (name : List ℕ) (number : Option ℕ) : Type 0 where
   pub old_name : List ℕ
   pub new_name : List ℕ
   pub command : IsCompare words old_name new_name
@@ -30,10 +31,10 @@ pub record IsFullInFiles (words : List (List ℕ)) (files : Option Files) (name 
   pub new : Program
   pub old_read : IsReading old_bytes old
   pub new_read : IsReading new_bytes new
-  pub pair : IsFullPair old new name
+  pub pair : IsFullPair old new name number
 
--- Where a whole line of what was written says that a pair is fully equivalent, it is.
+-- Where a whole line of what was written says that a pair of functions or of loops is fully equivalent, it is.
 abbrev pub SaysFullTruly : List (List ℕ) → Option Files → Option (List ℕ) → Option (List ℕ) → Type 0
 SaysFullTruly words files before after =
-    (written text name : List ℕ) → before ≡ Some written → after ≡ Some (written ++ text) → IsName name →
-    Contains (lines_of text) (full_line name) → IsFullInFiles words files name
+    (written text name : List ℕ) (number : Option ℕ) → before ≡ Some written → after ≡ Some (written ++ text) → IsName name → IsNumbered number →
+    Contains (lines_of text) (full_line name number) → IsFullInFiles words files name number

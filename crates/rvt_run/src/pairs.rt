@@ -1,14 +1,15 @@
-//! Pairs of functions of one name, and their verdicts.
+//! Pairs of functions of one name and of their loops, and their verdicts.
 
-ghost use Rattle.std.specs.Prelude.{◌≡◌, ◌≤◌, IfOk, length, map};
+ghost use Rattle.std.specs.Prelude.{◌≡◌, ◌^◌, ◌<◌, ◌≤◌, ◌↔◌, if◌then◌else◌, [], ◌∷◌, IfOk, IsTrue, Some, None, drop, length, map};
 ghost use Rattle.std.specs.Option.{option_copied};
 ghost use Rattle.one_table.specs.Names.{AreNumbers};
-ghost use Rattle.rvt_run.specs.Pairs.{ArePairs, IsVerdict, partner_of, said};
+ghost use Rattle.rvt_run.specs.Pairs.{ArePairs, AreLoops, AreLoopPairs, AreOneLoop, IsLoopVerdict, IsVerdict, partner_of, said};
 ghost use Rattle.rvt_run.specs.Pairs as spec;
 ghost use Rattle.rvt_run.specs.Report.{full_among, verdict_text};
 
-use crate::interfaces::same_interface;
+use crate::interfaces::{same_interface, same_loop_interface};
 use indexmap::IndexMap;
+use loop_interfaces::{LoopInterface, loop_interfaces, loop_numbers};
 use one_table::{find, numbers};
 use rvt_tree::{Function, Pairing};
 use std::alloc::{AllocError, Global};
@@ -32,14 +33,15 @@ pub fn text_of(verdict: Verdict) -> &'static [u8]
     }
 }
 
-/// A pair of functions of one name, and its verdict.
+/// A pair of functions of one name, or of loops of two such functions, and its verdict.
 #[derive(Clone, Copy, Drop)]
 pub struct Pair<'a> {
     pub name: &'a [u8],
+    pub loop_number: Option<u32>,
     pub verdict: Verdict,
 }
 
-/// The pairs, in the order of the old file.
+/// The pairs, in the order of the old file, the loops of two functions behind them.
 pub fn pairs<'a>(
     alloc: Global,
     old: &'a [Function],
@@ -56,7 +58,10 @@ pub fn pairs<'a>(
             Some(other) => other,
             None => continue,
         };
-        pairs.push(judged(function, other, pairing, is_twin(twins, i)))?;
+        let are_twins = is_twin(twins, i);
+        pairs.push(judged(function, other, pairing, are_twins))?;
+        let mut loops = loop_pairs(alloc, function, other, pairing, are_twins)?;
+        pairs.append(&mut loops)?;
     }
     Ok(pairs)
 }
@@ -92,6 +97,7 @@ pub fn is_alone(numbers: &IndexMap<&[u8], u32>, others: &[Function], function: &
 
 fn judged<'a>(old: &'a Function, new: &Function, pairing: &Pairing, is_twin: bool) -> Pair<'a>
     ensures name { result.name.now ≡ old.now.name }
+    ensures no_loop { result.loop_number ≡ None }
     ensures verdict { IsVerdict pairing.now old.now new.now is_twin result.verdict }
 {
     let verdict = if !same_interface(old, new, pairing) {
@@ -103,6 +109,7 @@ fn judged<'a>(old: &'a Function, new: &Function, pairing: &Pairing, is_twin: boo
     };
     Pair {
         name: old.name.bytes(),
+        loop_number: None,
         verdict,
     }
 }
@@ -122,6 +129,140 @@ fn is_paired(pairing: &Pairing, number: usize) -> bool
     match pairing.functions.get(number) {
         Some(Some(_)) => true,
         _ => false,
+    }
+}
+
+// ---- loops
+
+/// The pairs of the loops of two functions.
+fn loop_pairs<'a>(
+    alloc: Global,
+    old: &'a Function,
+    new: &Function,
+    pairing: &Pairing,
+    are_twins: bool,
+) -> Result<Vec<Pair<'a>>, AllocError>
+    ensures { IfOk result (λ pairs. AreLoops pairing.now old.now new.now are_twins (map said pairs.items)) }
+{
+    let loops = loop_interfaces(alloc, old)?;
+    let others = loop_interfaces(alloc, new)?;
+    let mut pairs = Vec::new(alloc);
+    let mut left = loops.as_slice();
+    let mut right = others.as_slice();
+    'loops: while let Some((a, more)) = left.split_first() {
+        match right.split_first() {
+            None => return Ok(pairs),
+            Some((b, rest)) => {
+                pairs.push(judged_loop(old, new, pairing, are_twins, a, b))?;
+                left = more;
+                right = rest;
+            }
+        }
+    }
+    Ok(pairs)
+}
+
+fn judged_loop<'a>(
+    old: &'a Function,
+    new: &Function,
+    pairing: &Pairing,
+    are_twins: bool,
+    a: &LoopInterface,
+    b: &LoopInterface,
+) -> Pair<'a>
+    ensures name { result.name.now ≡ old.now.name }
+    ensures number { result.loop_number ≡ Some a.now.number }
+    ensures small { a.now.number < 2 ^ 32 }
+    ensures verdict { IsLoopVerdict pairing.now old.now new.now are_twins a.now b.now result.verdict }
+{
+    let locals = a.locals.as_slice();
+    let others = b.locals.as_slice();
+    let verdict = if !same_loop_interface(old, new, locals, others, pairing) {
+        Verdict::Interface
+    } else if are_twins && are_one_loop(a, b) {
+        Verdict::Twin
+    } else {
+        Verdict::Bodies
+    };
+    let number = carried(a.number);
+    Pair {
+        name: old.name.bytes(),
+        loop_number: Some(number),
+        verdict,
+    }
+}
+
+/// The number, which has 32 bits.
+fn carried(number: u32) -> u32
+    ensures value { result ≡ number }
+    ensures small { number < 2 ^ 32 }
+{
+    number
+}
+
+/// Whether two loops carry one number, and their interfaces are the same locals.
+fn are_one_loop(a: &LoopInterface, b: &LoopInterface) -> bool
+    ensures { IsTrue result ↔ AreOneLoop a.now b.now }
+{
+    if a.number != b.number {
+        return false;
+    }
+    a.locals.as_slice() == b.locals.as_slice()
+}
+
+// ---- units of one file that are compared with none
+
+/// The function itself, where it has a body and no partner, and each loop of it that has none, by its number.
+pub fn units_alone(
+    alloc: Global,
+    numbers: &IndexMap<&[u8], u32>,
+    others: &[Function],
+    function: &Function,
+) -> Result<Vec<Option<u32>>, AllocError>
+    requires { AreNumbers numbers.now others.now }
+    ensures { IfOk result (λ units. units.items ≡ spec.units_alone others.now function.now) }
+{
+    let mut units = own_unit(alloc, is_alone(numbers, others, function))?;
+    let loops = loop_numbers(alloc, function)?;
+    let beside = loops_beside(alloc, partner(numbers, others, function))?;
+    'loops: for number in behind(loops.as_slice(), beside) {
+        units.push(Some(*number))?;
+    }
+    Ok(units)
+}
+
+/// The function itself, where it is alone.
+fn own_unit(alloc: Global, is_alone: bool) -> Result<Vec<Option<u32>>, AllocError>
+    ensures { IfOk result (λ units. units.items ≡ (if is_alone then None ∷ [] else [])) }
+{
+    let mut units = Vec::new(alloc);
+    if is_alone {
+        units.push(None)?;
+    }
+    Ok(units)
+}
+
+/// How many loops the other function has.
+fn loops_beside(alloc: Global, other: Option<&Function>) -> Result<usize, AllocError>
+    ensures { IfOk result (λ count. count ≡ spec.loops_beside (option_copied other.entry)) }
+{
+    match other {
+        None => Ok(0),
+        Some(other) => {
+            let loops = loop_numbers(alloc, other)?;
+            Ok(loops.len())
+        }
+    }
+}
+
+/// The numbers behind so many first ones.
+fn behind(numbers: &[u32], count: usize) -> &[u32]
+    ensures { result.now ≡ drop count numbers.now }
+{
+    if count < numbers.len() {
+        &numbers[count..]
+    } else {
+        &[]
     }
 }
 

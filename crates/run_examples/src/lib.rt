@@ -1,0 +1,5 @@
+//! What runs of the top call write. There are tests alone; files that are compared by the built program are in examples/.
+#![tactic(auto)]
+
+#[cfg(test)]
+mod runs;

@@ -1,0 +1,118 @@
+use rvt_edge::{Desk, MemoryDesk, MemorySink};
+use rvt_run::rvt;
+use std::alloc::Global;
+use std::test::Fail;
+
+const FACTORIAL: &str = "int f(int n){ if (n <= 1) return 1; return n * f(n - 1); }";
+
+// The status and the text of these words, over a desk with these files.
+fn run(
+    alloc: Global,
+    files: &[(&str, &[u8])],
+    words: &[&str],
+    fail_puts: Vec<u32>,
+) -> Result<(u8, String), Fail> {
+    let mut desk = MemoryDesk::new(alloc, Vec::new(alloc));
+    for (name, content) in files {
+        if desk.save(alloc, name, content).is_err() {
+            return Err(Fail::from("the desk refused"));
+        }
+    }
+    let mut given = Vec::new(alloc);
+    for word in words {
+        given.push(String::from_str(alloc, word)?)?;
+    }
+    let Ok(mut sink) = MemorySink::new(alloc, 1000, fail_puts) else {
+        return Err(Fail::from("no sink"));
+    };
+    let status = rvt(alloc, &given, &mut desk, &mut sink);
+    let mut text = String::new(alloc);
+    for byte in sink.bytes() {
+        text.push(char::from(*byte))?;
+    }
+    Ok((status, text))
+}
+
+fn compare(alloc: Global, old: &[u8], new: &[u8]) -> Result<(u8, String), Fail> {
+    run(
+        alloc,
+        &[("old.c", old), ("new.c", new)],
+        &["compare", "old.c", "new.c"],
+        Vec::new(alloc),
+    )
+}
+
+const QUEUE: &str = "#include <stdint.h>
+#include <stdbool.h>
+#define SIZE 16
+typedef struct { uint8_t buf[SIZE]; uint8_t head; uint8_t tail; } Queue;
+static Queue q;
+enum kind { IDLE = 3, BUSY };
+bool push(uint8_t b) { uint8_t next = (q.head + 1) % SIZE; if (next == q.tail) return false; q.buf[q.head] = b; q.head = next; return true; }
+bool pop(uint8_t *out) { if (q.head == q.tail) return false; *out = q.buf[q.tail]; q.tail = (q.tail + 1) % SIZE; return true; }
+int all(int n) { int s = 0; for (int i = 0; i < n; i++) { switch (i) { case IDLE: s += 2; break; default: s -= BUSY; } } return s; }
+int last(int n) { int x = n; int *p = &x; while (*p > 9) *p /= 10; return x; }
+";
+
+#[test]
+fn structs_pointers_loops_and_switches(rt: HostRuntime) -> Result<(), Fail> {
+    let file = QUEUE.as_bytes();
+    let (status, text) = compare(rt.alloc(), file, file)?;
+    assert_eq!(rt;
+        text.as_str(),
+        "push: fully equivalent, twin\npop: fully equivalent, twin\nall: fully equivalent, twin\nall loop 1: fully equivalent, twin\nlast: fully equivalent, twin\nlast loop 1: fully equivalent, twin\npairs 6 full 6 partial 0 different 0 unknown 0\n"
+    );
+    assert_eq!(rt; status, 0);
+    Ok(())
+}
+
+const LOOPS: &str = "int f(int n){ int s = 0;
+for (int i = 0; i < n; i++) { while (s > 9) s -= 9; do s++; while (s < 3); }
+switch (n) { case 1: while (n < 9) n++; break; default: s = n; }
+return s; }
+";
+
+#[test]
+fn each_loop_has_a_line(rt: HostRuntime) -> Result<(), Fail> {
+    let file = LOOPS.as_bytes();
+    let (status, text) = compare(rt.alloc(), file, file)?;
+    assert_eq!(rt;
+        text.as_str(),
+        "f: fully equivalent, twin\nf loop 1: fully equivalent, twin\nf loop 2: fully equivalent, twin\nf loop 3: fully equivalent, twin\nf loop 4: fully equivalent, twin\npairs 5 full 5 partial 0 different 0 unknown 0\n"
+    );
+    assert_eq!(rt; status, 0);
+    Ok(())
+}
+
+#[test]
+fn a_failed_put_cuts_the_report(rt: HostRuntime) -> Result<(), Fail> {
+    let alloc = rt.alloc();
+    let file = FACTORIAL.as_bytes();
+    let words = ["compare", "old.c", "new.c"];
+    let files = [("old.c", file), ("new.c", file)];
+    let (status, text) = run(alloc, &files, &words, vec![in alloc; 2]?)?;
+    assert_eq!(rt; text.as_str(), "f: fully equivalent, twin\n");
+    assert_eq!(rt; status, 4);
+    let (status, text) = run(alloc, &files, &words, vec![in alloc; 1]?)?;
+    assert_eq!(rt; text.as_str(), "");
+    assert_eq!(rt; status, 4);
+    Ok(())
+}
+
+// Whether these words are no command.
+fn are_refused(alloc: Global, words: &[&str]) -> Result<bool, Fail> {
+    let (status, text) = run(alloc, &[], words, Vec::new(alloc))?;
+    Ok(status == 2 && text.as_str() == "rvt: the words are no command\n")
+}
+
+#[test]
+fn other_words_are_no_command(rt: HostRuntime) -> Result<(), Fail> {
+    let alloc = rt.alloc();
+    assert!(rt; are_refused(alloc, &[])?);
+    assert!(rt; are_refused(alloc, &["compare", "old.c"])?);
+    assert!(rt; are_refused(alloc, &["compare", "old.c", ""])?);
+    assert!(rt; are_refused(alloc, &["compare", "old.c", "-"])?);
+    assert!(rt; are_refused(alloc, &["compare", "old.c", "a\nb"])?);
+    assert!(rt; are_refused(alloc, &["check", "old.c", "new.c"])?);
+    Ok(())
+}

@@ -1,0 +1,64 @@
+-- The names of units.
+use Rattle.std.proofs.Common.{◌≡◌, ℕ, suc, ◌+◌, ◌^◌, ◌<◌, ◌≤◌, List, [], ◌∷◌, ◌++◌, Option, Some, None, length, refl, sym, ◌∙◌, ap, subst, inl, inr, arith, append_assoc}
+use Rattle.std.specs.Prelude.{codes, All}
+use Rattle.std.specs.Fmt.{decimal}
+use Rattle.rvt_tree.specs.declared.programs.Function.{Function}
+use Rattle.rvt_run.specs.Report.{IsNameByte, IsName, IsNumbered, unit_text, full_line}
+use Rattle.rvt_run.proofs.Digits.{decimal_same}
+
+pub no_space : (b : ℕ) → b ≡ 32 → IsNameByte b → ⊥
+no_space b is (inl digit) = omega (arith, is, digit.0, digit.1)
+no_space b is (inr (inl upper)) = omega (arith, is, upper.0, upper.1)
+no_space b is (inr (inr (inl under))) = omega (arith, is, under)
+no_space b is (inr (inr (inr lower))) = omega (arith, is, lower.0, lower.1)
+
+-- bytes of a name are a name
+pub name_of_bytes : (bytes : List ℕ) → All IsNameByte bytes → IsName bytes
+name_of_bytes [] all = tt
+name_of_bytes (b ∷ bytes) all = (all 0 b (omega arith), name_of_bytes bytes (λ k d low. all (suc k) d (omega (arith, low))))
+
+-- each function has a name as C writes it
+abbrev pub AreNamed : List Function → Type 0
+AreNamed = All (λ f. All IsNameByte f.name)
+
+-- no name has a space
+pub spaced_no_name : (p rest : List ℕ) → IsName (p ++ 32 ∷ rest) → ⊥
+spaced_no_name [] rest is = no_space 32 refl is.0
+spaced_no_name (a ∷ p) rest is = spaced_no_name p rest is.1
+
+-- behind two names, the first space is at one place
+pub space_behind : (p q rest rest' : List ℕ) → IsName p → IsName q → p ++ 32 ∷ rest ≡ q ++ 32 ∷ rest' → (p ≡ q) × (rest ≡ rest')
+space_behind [] [] rest rest' ps qs e = let h : rest ≡ rest' = cc in (refl, h)
+space_behind [] (b ∷ q) rest rest' ps qs e = let h : 32 ≡ b = cc in absurd (no_space b (sym h) qs.0)
+space_behind (a ∷ p) [] rest rest' ps qs e = let h : a ≡ 32 = cc in absurd (no_space a h ps.0)
+space_behind (a ∷ p) (b ∷ q) rest rest' ps qs e =
+    let first : a ≡ b = cc in
+    let more : p ++ 32 ∷ rest ≡ q ++ 32 ∷ rest' = cc in
+    let found = space_behind p q rest rest' ps.1 qs.1 more in
+    (ap (λ (n : ℕ). n ∷ p) first ∙ ap (λ (l : List ℕ). b ∷ l) found.0, found.1)
+
+-- two units of one text are one
+pub units_same : (p name : List ℕ) (m n : Option ℕ) → IsName p → IsName name → IsNumbered m → IsNumbered n → unit_text p m ≡ unit_text name n → (p ≡ name) × (m ≡ n)
+units_same p name None None ps ns low low' e = (e, refl)
+units_same p name None (Some n) ps ns low low' e = absurd (spaced_no_name name (codes "loop " ++ decimal n) (subst IsName e ps))
+units_same p name (Some m) None ps ns low low' e = absurd (spaced_no_name p (codes "loop " ++ decimal m) (subst IsName (sym e) ns))
+units_same p name (Some m) (Some n) ps ns low low' e =
+    let found = space_behind p name (codes "loop " ++ decimal m) (codes "loop " ++ decimal n) ps ns e in
+    let rest : codes "loop " ++ decimal m ≡ codes "loop " ++ decimal n = found.1 in
+    let written : decimal m ≡ decimal n = cc in
+    (found.0, ap (λ (k : ℕ). Some k) (decimal_same m n (omega (arith, low)) (omega (arith, low')) written))
+
+-- ---- the line of a full pair
+
+-- behind the name of a function stands a colon
+pub function_line : (name : List ℕ) → full_line name None ≡ name ++ 58 ∷ (codes " fully equivalent, twin" ++ 10 ∷ [])
+function_line name = append_assoc name (codes ": fully equivalent, twin") (10 ∷ [])
+
+abbrev pub loop_rest : ℕ → List ℕ
+loop_rest n = ((codes "oop " ++ decimal n) ++ codes ": fully equivalent, twin") ++ 10 ∷ []
+
+-- behind that of a loop a space and an l
+pub loop_line : (name : List ℕ) (n : ℕ) → full_line name (Some n) ≡ name ++ 32 ∷ (108 ∷ loop_rest n)
+loop_line name n =
+    ap (λ (l : List ℕ). l ++ 10 ∷ []) (append_assoc name (codes " loop " ++ decimal n) (codes ": fully equivalent, twin"))
+    ∙ append_assoc name ((codes " loop " ++ decimal n) ++ codes ": fully equivalent, twin") (10 ∷ [])
