@@ -1,6 +1,5 @@
 -- Pairs of functions whose loops stand on locals of the same names.
 use Rattle.std.proofs.Common.{◌≡◌, ◌≢◌, ℕ, zero, suc, ◌+◌, ◌<◌, ◌≤◌, ◌⊎◌, ◌↔◌, Bool, true, false, not, nat_eq, List, [], ◌∷◌, length, set, slice_get, get_or, Option, Some, None, inl, inr, refl, sym, ap, ◌∙◌, subst, arith}
-use Rattle.std.specs.List.{Contains}
 use Rattle.std.specs.Cmp.Lexicographic.{pointwise}
 use Rattle.std.proofs.Math.Nat.{eq-or-lt_of_le}
 use Rattle.std.proofs.lemmas.Slice.Eq.{bytes_eq-Decides}
@@ -12,7 +11,6 @@ use Rattle.rvt_tree.specs.Same.{ArePaired}
 use Rattle.c_meaning.specs.Interfaces.{StandsIn, name_of, named_in_loop, declared_in_loop}
 use Rattle.c_meaning.specs.Twins.{IsClosed}
 use Rattle.twin_check.specs.Sets.{IsWithin, HasEveryClosed}
-use Rattle.one_table.specs.Candidates.{candidates_of}
 use Rattle.one_table.specs.Twins.{AreTwinsOf}
 use Rattle.loop_interfaces.specs.declared.interfaces.LoopInterface.{LoopInterface}
 use Rattle.loop_interfaces.specs.NameOrder.{AreInterfaces, IsLoopInterface}

@@ -1,5 +1,5 @@
 -- Twins whose loops are twins too.
-use Rattle.std.specs.Prelude.{◌≡◌, ℕ, List, Option, Some, None, slice_get}
+use Rattle.std.specs.Prelude.{◌≡◌, ℕ, List, Option, Some, slice_get}
 use Rattle.std.specs.List.{Contains}
 use Rattle.rvt_tree.specs.Syntax.{Statement}
 use Rattle.rvt_tree.specs.declared.pairings.Pairing.{Pairing}

@@ -1,6 +1,4 @@
-use Rattle.std.proofs.Common.{◌≡◌, ◌↔◌, ℕ, List, [], true, false, not, refl, sym, ◌∙◌, ap, subst}
-use Rattle.std.specs.Str.{bytes_eq}
-use Rattle.std.proofs.lemmas.Slice.Eq.{bytes_eq-Decides}
+use Rattle.std.proofs.Common.{◌≡◌, true, false, refl, sym, ◌∙◌}
 use Rattle.rvt_run.specs.LoopTwins.{AreNamedSo}
 use Rattle.rvt_run.proofs.Alike.{so_step, so_fails, so_nil, not_same, not_other, nil_of}
 use Rattle.rvt_run.proofs.loop_twins.are_named_so.Goals as goal

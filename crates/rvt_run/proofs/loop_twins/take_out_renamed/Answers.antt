@@ -1,4 +1,4 @@
-use Rattle.std.proofs.Common.{◌≡◌, ◌+◌, ℕ, List, Option, Some, None, true, false, length, set, refl, sym, ◌∙◌, ap, subst, arith, length-set}
+use Rattle.std.proofs.Common.{◌≡◌, ◌+◌, ℕ, List, Option, Some, None, true, false, length, refl, sym, ◌∙◌, ap, subst, arith, length-set}
 use Rattle.rvt_tree.specs.Same.{ArePaired}
 use Rattle.rvt_run.proofs.Alike.{Alike, TakenOut, start, one_out, one_in, all_alike}
 use Rattle.rvt_run.proofs.loop_twins.take_out_renamed.Goals as goal

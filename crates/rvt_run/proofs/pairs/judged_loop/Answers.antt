@@ -1,4 +1,3 @@
-use Rattle.std.proofs.Common.{◌<◌, ◌^◌, ℕ, subst}
 use Rattle.rvt_run.proofs.pairs.judged_loop.Goals as goal
 
 pub returns-clause-small : goal.returns-clause-small

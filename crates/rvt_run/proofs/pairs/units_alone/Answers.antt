@@ -1,7 +1,6 @@
-use Rattle.std.proofs.Common.{◌≡◌, ◌+◌, ◌++◌, [], ◌∷◌, ℕ, List, Option, Some, None, drop, length, get_or, cond, drop-cons, refl, sym, ◌∙◌, ap, arith, append_assoc}
+use Rattle.std.proofs.Common.{◌≡◌, ◌++◌, [], ◌∷◌, ℕ, List, Option, Some, None, drop, cond, sym, ◌∙◌, ap, arith}
 use Rattle.std.specs.Prelude.{map}
 use Rattle.std.proofs.lemmas.List.{append-nil, drop_all}
-use Rattle.rvt_tree.specs.declared.programs.Function.{Function}
 use Rattle.rvt_run.specs.Pairs.{loop_numbers, loops_beside, partner_of, is_alone}
 use Rattle.rvt_run.proofs.LoopPairs.{one_number}
 use Rattle.rvt_run.proofs.pairs.units_alone.Goals as goal

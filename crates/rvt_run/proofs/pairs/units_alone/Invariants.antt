@@ -1,4 +1,4 @@
-use Rattle.std.proofs.Common.{◌≡◌, ◌++◌, drop, Option, Some, ℕ}
+use Rattle.std.proofs.Common.{◌≡◌, ◌++◌, drop, Some, ℕ}
 use Rattle.std.specs.Prelude.{map}
 use Rattle.rvt_run.proofs.pairs.units_alone.Given as goal
 
