@@ -6,7 +6,7 @@ use Rattle.rvt_tree.specs.declared.programs.Program.{Program}
 use Rattle.rvt_tree.specs.declared.statements.Label.{Label}
 use Rattle.rvt_tree.specs.declared.statements.Label.TheVariants.{Case, Default}
 use Rattle.rvt_tree.specs.Syntax.{Statements, compound, Groups, no_groups, labelled}
-use Rattle.c_meaning.specs.Outcomes.{State, Doing, Manner, give, Normally, and_then}
+use Rattle.c_meaning.specs.Outcomes.{State, give, Normally, and_then}
 use Rattle.c_meaning.specs.Statements.{after_group, any, or_else, meaning, group}
 use Rattle.c_meaning.specs.Runs.{stepping}
 use Rattle.c_tasks.specs.Operands.{Operands}

@@ -1,12 +1,9 @@
 -- How the last statement ended.
-use Rattle.std.proofs.Common.{◌≡◌, ℕ, refl, sym, ap, ◌∙◌}
+use Rattle.std.proofs.Common.{◌≡◌, ℕ, sym, ap}
 use Rattle.rvt_tree.specs.declared.programs.Program.{Program}
-use Rattle.rvt_tree.specs.Syntax.{Statement, Statements}
-use Rattle.c_meaning.specs.Outcomes.{State, Doing, Manner, Normally, Broke, Continued}
-use Rattle.c_meaning.specs.Statements.{normally_then, after_round, after_body, after_group, acts, block}
-use Rattle.c_meaning.specs.Runs.{stepping}
+use Rattle.c_meaning.specs.Outcomes.{State, Doing, Manner}
 use Rattle.c_tasks.specs.Operands.{Operands, with_manner}
-use Rattle.c_tasks.specs.Tasks.{Rest, ending, last_in, rounded, returning}
+use Rattle.c_tasks.specs.Tasks.{Rest, ending}
 
 -- a manner that stays as it is
 pub same_manner : (next : Rest) (on : Operands) (manner : Manner) (s : State ℕ) → on.manner ≡ manner → next on s ≡ next (with_manner manner on) s

@@ -1,5 +1,5 @@
 -- Turns of loops, by the laws of runs.
-use Rattle.std.proofs.Common.{◌≡◌, ℕ, Bool, true, false, Option, Some, None, IsTrue, List, [], refl, sym, ap, ◌∙◌, subst}
+use Rattle.std.proofs.Common.{◌≡◌, ℕ, Bool, true, false, Option, Some, None, IsTrue, List, [], refl, sym, ap, subst}
 use Rattle.rvt_tree.specs.declared.programs.Program.{Program}
 use Rattle.std.specs.Prelude.{Box}
 use Rattle.std.specs.declared.alloc.Global.{Global}
@@ -10,10 +10,10 @@ use Rattle.rvt_tree.specs.declared.statements.Stmt.{Stmt}
 use Rattle.rvt_tree.specs.declared.statements.Stmt.TheVariants as S
 use Rattle.rvt_tree.specs.Views.{stmt_view}
 use Rattle.rvt_tree.specs.Syntax.{Expression, Action, Statement, compound, null_statement, action, declaration, declaration_with, break_statement, continue_statement, return_statement, return_value, if_statement, if_else, while_loop, do_loop, for_loop, switch, Statements}
-use Rattle.c_meaning.specs.Outcomes.{State, Doing, Manner, Normally, give, go_on, and_then}
+use Rattle.c_meaning.specs.Outcomes.{State, Normally, give, go_on, and_then}
 use Rattle.c_meaning.specs.Statements.{test_of, after_body, acts, meaning, in_scope, left_scope, declared_in, block}
 use Rattle.c_meaning.specs.Runs.{stepping}
-use Rattle.c_tasks.specs.Tasks.{Rest, ending, test_in, last_in, round_in, again, onward, tested, returning, rounded}
+use Rattle.c_tasks.specs.Tasks.{test_in, last_in, round_in, again, onward, tested, returning, rounded}
 use Rattle.c_tasks.proofs.Sequences.{then_alike}
 use Rattle.c_control.specs.Loops.{Lawful, is_loop}
 

@@ -1,5 +1,5 @@
 -- The group of a `switch` that a number selects, and what is to come of it.
-use Rattle.std.specs.Prelude.{ℕ, List, Bool, if◌then◌else◌, Option, Some, None}
+use Rattle.std.specs.Prelude.{ℕ, Bool, if◌then◌else◌, Option, Some, None}
 use Rattle.rvt_num.specs.Number.{Number}
 use Rattle.rvt_tree.specs.declared.programs.Program.{Program}
 use Rattle.rvt_tree.specs.declared.statements.Label.{Label}

@@ -1,4 +1,3 @@
-use Rattle.std.proofs.Common.{sym, ◌∙◌, arith}
 use Rattle.rvt_tree.specs.Views.{stmts_view}
 use Rattle.c_meaning.specs.Statements.{left_scope, declared_in, after_group, block}
 use Rattle.c_meaning.specs.Runs.{stepping}

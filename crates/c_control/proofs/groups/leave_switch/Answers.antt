@@ -1,4 +1,4 @@
-use Rattle.std.proofs.Common.{refl, ap, ◌∙◌}
+use Rattle.std.proofs.Common.{ap, ◌∙◌}
 use Rattle.c_meaning.specs.Outcomes.{Normally, Broke, Continued}
 use Rattle.c_meaning.specs.Statements.{after_group}
 use Rattle.c_tasks.specs.Operands.{operands, with_manner, manner_of}
