@@ -1,0 +1,4 @@
+pub mod Manners
+pub mod Parts
+pub mod Chosen
+pub mod Turns
