@@ -1,0 +1,9 @@
+pub mod Stacked
+pub mod Entries
+pub mod Initialized
+pub mod Begun
+pub mod Halts
+pub mod Results
+pub mod Resumed
+pub mod Entered
+pub mod Declared
