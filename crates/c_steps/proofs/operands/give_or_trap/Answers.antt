@@ -1,0 +1,16 @@
+use Rattle.std.proofs.Common.{ap, arith}
+use Rattle.c_tasks.specs.Weights.{tasks_weight}
+use Rattle.c_steps.proofs.Moves.{gave_value, trapped_value}
+use Rattle.c_steps.proofs.operands.give_or_trap.Goals as goal
+
+pub returns-in_ok-give-in-Ok-clause-next : goal.returns-in_ok-give-in-Ok-clause-next
+returns-in_ok-give-in-Ok-clause-next c =
+    gave_value c.args.work.now c.give.new.self c.args.computed c.in-Ok.value c.in-Ok.is c.in_ok-give-in-Ok.ensures.tasks c.in_ok-give-in-Ok.ensures.operands
+
+pub returns-in_ok-give-in-Ok-clause-light : goal.returns-in_ok-give-in-Ok-clause-light
+returns-in_ok-give-in-Ok-clause-light c =
+    omega (arith, ap tasks_weight c.in_ok-give-in-Ok.ensures.tasks)
+
+pub returns-in-Err-clause-next : goal.returns-in-Err-clause-next
+returns-in-Err-clause-next c =
+    trapped_value c.args.work.now c.args.computed c.in-Err.trap c.in-Err.is
