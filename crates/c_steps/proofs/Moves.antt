@@ -1,5 +1,5 @@
 -- Work that was moved on by parts: values and places that were taken, and what comes then.
-use Rattle.std.proofs.Common.{◌≡◌, ℕ, ◌+◌, ◌≤◌, List, Result, Ok, Err, IfOk, OnOk, refl, sym, ap, subst, ◌∙◌, arith}
+use Rattle.std.proofs.Common.{◌≡◌, ℕ, ◌+◌, ◌≤◌, List, Result, Ok, Err, IfOk, OnOk, sym, ap, subst, ◌∙◌, arith}
 use Rattle.rvt_num.specs.declared.values.Trap.{Trap}
 use Rattle.rvt_num.specs.declared.values.Value.{Value}
 use Rattle.rvt_tree.specs.declared.programs.Program.{Program}

@@ -88,11 +88,7 @@ pub fn laws_of_loops(_program: &Program)
 }
 
 /// A loop begins.
-pub fn begin_loop<'a>(
-    layouts: &Layouts,
-    work: &mut Work<'a>,
-    s: &'a Stmt,
-) -> Result<(), AllocError>
+pub fn begin_loop<'a>(layouts: &Layouts, work: &mut Work<'a>, s: &'a Stmt) -> Result<(), AllocError>
     requires loop_statement { IsTrue (is_loop (stmt_view s.now)) }
     ensures next { OnOk result (Advances layouts.now (λ d. running_statement layouts.now d (stmt_view s.now)) work.old work.new) }
     ensures weight { OnOk result (tasks_weight work.new.tasks.items ≤ tasks_weight work.old.tasks.items + statement_weight (stmt_view s.now)) }

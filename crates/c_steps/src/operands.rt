@@ -94,11 +94,7 @@ pub fn aim<'a>(
 }
 
 /// The place of an element.
-pub fn element<'a>(
-    work: &mut Work<'a>,
-    count: u32,
-    size: u32,
-) -> Result<Progress<'a>, AllocError>
+pub fn element<'a>(work: &mut Work<'a>, count: u32, size: u32) -> Result<Progress<'a>, AllocError>
     ensures next { IfOk result (λ progress. (program : Program) → WorkDoes program (λ d. step program d (T.Element count size)) work.old progress work.new) }
     ensures light { IfOk result (λ progress. tasks_weight work.new.tasks.items + progress_weight progress ≡ tasks_weight work.old.tasks.items) }
 {

@@ -4,7 +4,8 @@ ghost use Rattle.std.specs.Prelude.{◌≡◌, IfOk};
 ghost use Rattle.c_tasks.specs.Tasks.{unary_result, binary_result};
 
 use c_operations::{
-    bumped, direction, holds, number_of, operated, same_pointer, times, truth_value, unary_number, updated,
+    bumped, direction, holds, number_of, operated, same_pointer, times, truth_value, unary_number,
+    updated,
 };
 use c_places::Layouts;
 use c_tasks::{Binary, Unary};

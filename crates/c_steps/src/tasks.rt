@@ -61,7 +61,9 @@ pub fn perform<'a>(
         }
         Task::Members(members, at, count) => goes_on(fill_members(work, members, at, count)),
         Task::Pad(at, count) => goes_on(pad(work, at, count)),
-        Task::Initialize(variable, height) => goes_on(initialize(alloc, layouts, cells, work, variable, height)),
+        Task::Initialize(variable, height) => goes_on(initialize(
+            alloc, layouts, cells, work, variable, height,
+        )),
         Task::Statement(which, s) => part(layouts, cells, work, which, s),
         Task::Block(body) => goes_on(work.block(body)),
         Task::Rest(body) => goes_on(rest(work, body)),

@@ -1,4 +1,3 @@
-
 use Rattle.c_steps.proofs.choices.laws_of_loops.Goals as goal
 
 pub returns : goal.returns

@@ -1,4 +1,4 @@
-use Rattle.std.proofs.Common.{◌≡◌, ◌-◌, Some, None, length, slice_get, ap, subst, ◌∙◌}
+use Rattle.std.proofs.Common.{◌-◌, length, slice_get, ap, ◌∙◌}
 use Rattle.c_tasks.specs.Operands.{nowhere}
 use Rattle.c_steps.proofs.LastPlaces.{last_is_top, no_last}
 use Rattle.c_steps.proofs.places.last_place.Goals as goal
