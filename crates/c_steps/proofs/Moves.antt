@@ -5,14 +5,13 @@ use Rattle.rvt_num.specs.declared.values.Value.{Value}
 use Rattle.rvt_tree.specs.declared.programs.Program.{Program}
 use Rattle.c_meaning.specs.Outcomes.{State, and_then, unless_trapped, trap}
 use Rattle.c_meaning.specs.Stores.{Location}
-use Rattle.c_places.specs.Kept.{Contents}
 use Rattle.c_tasks.specs.Operands.{Operands, operands, with_value, with_place}
-use Rattle.c_tasks.specs.Tasks.{Rest, step, after, to_come, Becomes}
+use Rattle.c_tasks.specs.Tasks.{Rest, after, to_come, Becomes}
 use Rattle.c_tasks.specs.declared.tasks.Task.{Task}
 use Rattle.c_tasks.specs.declared.work.Work.{Work}
 use Rattle.c_steps.specs.declared.progress.Progress.{Progress}
 use Rattle.c_steps.specs.declared.progress.Progress.TheVariants.{GoesOn}
-use Rattle.c_steps.specs.Steps.{with_left, onward, Advances, Does}
+use Rattle.c_steps.specs.Steps.{onward, Advances}
 
 -- a value that was computed goes to the tasks that wait
 pub given_value : (program : Program) (d : ℕ) (s : State ℕ) (tasks before : List Task) (on wanted : Operands) (r computed : Result Value Trap) →
@@ -81,20 +80,10 @@ advances_from program H F old taken new on same_tasks same_operands alike h d s 
     ∙ ap (λ o. H d (after program d old.tasks.items) o s) same_operands
     ∙ alike d (after program d old.tasks.items) s
 
--- ---- tasks
-
+-- where something was done, the activation goes on
 pub going : {A E P : Type 0} (Q : Progress → Type 0) (done : Result A E) (r : Result Progress E) → r ≡ onward done → (P → Q GoesOn) → OnOk done P → IfOk r Q
 going Q (Ok a) r is f h = subst (λ q. IfOk q Q) (sym is) (f h)
 going Q (Err e) r is f h = subst (λ q. IfOk q Q) (sym is) tt
-
--- a task of this form was done
-pub by_task : (program : Program) (task t : Task) (work later : Work) (cells : Contents) → task ≡ t → Becomes (λ program d. step program d t) work later → Does program (λ d. step program d task) work cells GoesOn later cells
-by_task program task t work later cells is h d left =
-    h program d (with_left cells left) ∙ ap (λ u. step program d u (after program d work.tasks.items) (operands work) (with_left cells left)) (sym is)
-
-pub of_task : (program : Program) (task t : Task) (work later : Work) (cells new_cells : Contents) (progress : Progress) → task ≡ t → Does program (λ d. step program d t) work cells progress later new_cells → Does program (λ d. step program d task) work cells progress later new_cells
-of_task program task t work later cells new_cells progress is h d left =
-    h d left ∙ ap (λ u. step program d u (after program d work.tasks.items) (operands work) (with_left cells left)) (sym is)
 
 pub same_weight : (new old whole : ℕ) → new ≡ old → whole ≡ 1 → new + 1 + 0 ≤ old + whole
 same_weight new old whole e is = omega (arith, e, is)
@@ -104,9 +93,6 @@ less_weight new old part whole e is = omega (arith, e, is)
 
 pub within_weight : (new old part whole : ℕ) → new + 1 ≤ old + part → whole ≡ part → new + 1 + 0 ≤ old + whole
 within_weight new old part whole e is = omega (arith, e, is)
-
-pub taken_weight : (new taken old part whole : ℕ) → new ≤ taken + part → taken ≡ old → 1 + part ≤ whole → new + 1 ≤ old + whole
-taken_weight new taken old part whole e same small = omega (arith, e, same, small)
 
 -- ---- results of calls
 
