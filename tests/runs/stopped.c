@@ -37,5 +37,6 @@ void nothing(void) { }
 
 int count(int n) { int i = 0; while (i < n) i++; return i; }
 void forever(void) { for (;;) { } }
+int sum(int n) { int s = 0; for (int i = 0; i < n; i++) s += i; return s; }
 int down(int n) { if (n == 0) return 0; return down(n - 1); }
 int never(int n) { return never(n); }

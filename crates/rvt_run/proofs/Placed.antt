@@ -9,11 +9,11 @@ use Rattle.rvt_run.specs.Report.{IsNameByte, IsName, unit_text, full_line}
 use Rattle.rvt_run.proofs.Digits.{AreDigits, decimal_are}
 
 -- no byte is a colon, by computing
-abbrev without_colon : List ℕ → Bool
+abbrev pub without_colon : List ℕ → Bool
 without_colon [] = true
 without_colon (b ∷ bytes) = if b == 58 then false else without_colon bytes
 
-no_colon_in : (text before behind : List ℕ) → without_colon text ≡ true → before ++ 58 ∷ behind ≡ text → ⊥
+pub no_colon_in : (text before behind : List ℕ) → without_colon text ≡ true → before ++ 58 ∷ behind ≡ text → ⊥
 no_colon_in [] [] behind is e = cc
 no_colon_in [] (a ∷ before) behind is e = cc
 no_colon_in (b ∷ text) [] behind is e =
@@ -26,14 +26,14 @@ no_colon_in (b ∷ text) (a ∷ before) behind is e = let rest : before ++ 58 �
     cases true found later = let no : false ≡ true = sym (ap (λ (c : Bool). if c then false else without_colon text) found) ∙ is in cc
     cases false found later = later (sym (ap (λ (c : Bool). if c then false else without_colon text) found) ∙ is)
 
-no_name_colon : (b : ℕ) → b ≡ 58 → IsNameByte b → ⊥
+pub no_name_colon : (b : ℕ) → b ≡ 58 → IsNameByte b → ⊥
 no_name_colon b is (inl digit) = omega (arith, is, digit.0, digit.1)
 no_name_colon b is (inr (inl upper)) = omega (arith, is, upper.0, upper.1)
 no_name_colon b is (inr (inr (inl under))) = omega (arith, is, under)
 no_name_colon b is (inr (inr (inr lower))) = omega (arith, is, lower.0, lower.1)
 
 -- no byte is a colon
-abbrev HasNoColon : List ℕ → Type 0
+abbrev pub HasNoColon : List ℕ → Type 0
 HasNoColon [] = Unit {0}
 HasNoColon (b ∷ bytes) = (b ≡ 58 → ⊥) × HasNoColon bytes
 
@@ -63,7 +63,7 @@ literal (b ∷ text) is = cases (b == 58) refl (literal text)
         apart : b ≡ 58 → (b == 58) ≡ false → ⊥
         apart colon other = let no : true ≡ false = sym (ap (λ (x : ℕ). x == 58) colon) ∙ other in cc
 
-unit_none : (name : List ℕ) (number : Option ℕ) → IsName name → HasNoColon (unit_text name number)
+pub unit_none : (name : List ℕ) (number : Option ℕ) → IsName name → HasNoColon (unit_text name number)
 unit_none name None is = name_none name is
 unit_none name (Some n) is = joined name (codes " loop " ++ decimal n) (name_none name is) (joined (codes " loop ") (decimal n) (literal (codes " loop ") refl) (digits_none (decimal n) (decimal_are n)))
 

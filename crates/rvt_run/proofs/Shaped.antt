@@ -1,6 +1,6 @@
 -- Each line of an answer is one line.
-use Rattle.std.proofs.Common.{◌≡◌, ◌≢◌, ℕ, suc, ◌+◌, ◌-◌, ◌^◌, ◌≤◌, Bool, true, false, if◌then◌else◌, List, [], ◌∷◌, ◌++◌, length, Option, Some, None, refl, sym, ◌∙◌, ap, subst, arith}
-use Rattle.std.specs.Prelude.{◌==◌, codes, All}
+use Rattle.std.proofs.Common.{◌≡◌, ◌≢◌, ℕ, suc, ◌+◌, ◌-◌, ◌^◌, ◌<◌, ◌≤◌, Bool, true, false, if◌then◌else◌, List, [], ◌∷◌, ◌++◌, length, Option, Some, None, refl, sym, ◌∙◌, ap, subst, arith}
+use Rattle.std.specs.Prelude.{◌==◌, ◌&&◌, codes, cond, All}
 use Rattle.std.specs.Fmt.{decimal}
 use Rattle.std.proofs.lemmas.Bool.{eqb-true}
 use Rattle.std.proofs.lemmas.List.{map-append}
@@ -15,10 +15,19 @@ use Rattle.loop_interfaces.specs.declared.interfaces.LoopInterface.{LoopInterfac
 use Rattle.rvt_run.specs.Pairs.{PairVerdict, ArePairs, no_more, skipped, paired, AreLoopPairs, units_alone, is_twin}
 use Rattle.rvt_run.specs.Report.{verdict_text, unit_text, unit_lines, pair_line, pair_lines, only_lines, counts_text, counts_of, full_among, report_lines}
 use Rattle.rvt_run.specs.Texts.{HasNoLineEnd}
-use Rattle.rvt_run.specs.Words.{IsPlain}
 use Rattle.rvt_run.proofs.Digits.{AreDigits, decimal_are}
+use Rattle.command_words.specs.Texts.{is_printing, is_text}
+use Rattle.std.specs.List.{list_all}
 
 -- ---- texts without line ends
+
+pub and_left : (a b : Bool) → (a && b) ≡ true → a ≡ true
+and_left true b is = refl
+and_left false b is = is
+
+pub and_right : (a b : Bool) → (a && b) ≡ true → b ≡ true
+and_right true b is = is
+and_right false b is = cc
 
 other_byte : (byte : ℕ) → byte ≢ 10 → (byte == 10) ≡ false
 other_byte byte apart = cases (byte == 10) refl
@@ -51,15 +60,19 @@ digits_none (b ∷ bytes) all = (other_byte b (λ ten. omega (arith, ten, all.0.
 pub number_none : (n : ℕ) → HasNoLineEnd (decimal n)
 number_none n = digits_none (decimal n) (decimal_are n)
 
--- a word that may name a file
-printing_none : (word : List ℕ) → All (λ byte. (32 ≤ byte) × (byte ≢ 127)) word → HasNoLineEnd word
+-- a word of the command line
+printing_none : (word : List ℕ) → list_all is_printing word ≡ true → HasNoLineEnd word
 printing_none [] all = tt
-printing_none (b ∷ word) all =
-    let first : 32 ≤ b = (all 0 b (omega arith)).0 in
-    (other_byte b (λ ten. omega (arith, ten, first)), printing_none word (λ k d h. all (suc k) d (omega (arith, h))))
+printing_none (b ∷ word) all = (cases (b == 10) refl, printing_none word (and_right (is_printing b) (list_all is_printing word) all))
+  where
+    cases : (c : Bool) → (b == 10) ≡ c → c ≡ false
+    cases false is = refl
+    cases true is =
+        let no : false ≡ true = sym (ap is_printing (eqb-true b 10 is)) ∙ and_left (is_printing b) (list_all is_printing word) all in
+        cc
 
-pub plain_none : (word : List ℕ) → IsPlain word → HasNoLineEnd word
-plain_none word plain = printing_none word plain.printing
+pub text_none : (word : List ℕ) → is_text word ≡ true → HasNoLineEnd word
+text_none word is = printing_none word (and_right _ (list_all is_printing word) is)
 
 -- ---- lines
 

@@ -9,50 +9,22 @@ use Rattle.std.proofs.Math.Nat.{eq-or-lt_of_le}
 use Rattle.rvt_edge.specs.declared.desk.Call.{Call}
 use Rattle.rvt_edge.specs.Desk.{Files}
 use Rattle.rvt_edge.specs.Sink.{Grows, GrowsByPart}
-use Rattle.c_source.specs.declared.refused.Refusal.{Refusal}
-use Rattle.rvt_run.specs.Answer.{Answers, refused_at, refused, old_fault, old_long, new_fault, new_long, compared, Compares, old_refused, new_refused, reported, Writes, IsLine, line, no_command}
+use Rattle.command_words.specs.Commands.{comparison, IsCommand}
+use Rattle.rvt_run.specs.Answer.{Answers, refused, compare, run, AnswersCompare, old_fault, old_long, new_fault, new_long, compared, Compares, old_refused, new_refused, reported, Writes, IsLine}
 use Rattle.rvt_run.specs.Headline.{lines_of, SaysFullTruly, IsFullInFiles}
-use Rattle.rvt_run.specs.Report.{IsName, IsNumbered, IsTrueLine, unit_text, full_line}
-use Rattle.rvt_run.proofs.Placed.{placed_no_full}
+use Rattle.rvt_run.specs.Report.{IsName, IsNumbered, IsTrueLine, full_line}
+use Rattle.rvt_run.proofs.Lone.{lone, no_refusal}
+use Rattle.rvt_run.proofs.RunSpoken.{answers_run_no_full}
 use Rattle.rvt_run.proofs.Split.{lines_of_concat, line_of_part}
-use Rattle.rvt_run.proofs.Truth.{same_end}
 
-apart : (n front : List ℕ) (x : ℕ) → (n ++ (front ++ x ∷ [])) ++ 10 ∷ [] ≡ (n ++ front) ++ x ∷ 10 ∷ []
-apart n front x = ap (λ (l : List ℕ). l ++ 10 ∷ []) (sym (append_assoc n front (x ∷ []))) ∙ append_assoc (n ++ front) (x ∷ []) (10 ∷ [])
-
--- a line that ends otherwise isn't that of a full pair
-other_end : (first front name : List ℕ) (number : Option ℕ) (byte : ℕ) → line first (front ++ byte ∷ []) ≡ full_line name number → byte ≡ 110
-other_end first front name number byte e =
-    same_end (first ++ front) (unit_text name number ++ codes ": fully equivalent, twi") byte 110 (sym (apart first front byte) ∙ e ∙ apart (unit_text name number) (codes ": fully equivalent, twi") 110)
-
--- one line whose text ends otherwise
-lone : (first front : List ℕ) (byte : ℕ) (name : List ℕ) (number : Option ℕ) → (byte ≡ 110 → ⊥) → Contains (line first (front ++ byte ∷ []) ∷ []) (full_line name number) → ⊥
-lone first front byte name number differs among = cases among.0 among.1 among.2
-  where
-    cases : (k : ℕ) → k < 1 → get_or (line first (front ++ byte ∷ []) ∷ []) k (full_line name number) ≡ full_line name number → ⊥
-    cases zero low is = differs (other_end first front name number byte is)
-    cases (suc k) low is = omega (arith, low)
-
--- a refusal says nothing of a pair
-no_refusal : (file : List ℕ) (refusal : Refusal) (name : List ℕ) (number : Option ℕ) → IsName name → Contains (refused_at file refusal) (full_line name number) → ⊥
-no_refusal file refusal name number is_name among = cases among.0 among.1 among.2
-  where
-    cases : (k : ℕ) → k < 1 → get_or (refused_at file refusal) k (full_line name number) ≡ full_line name number → ⊥
-    cases zero low is = placed_no_full file refusal name number is_name is
-    cases (suc k) low is = omega (arith, low)
-
--- where a line of the answer says that a pair is fully equivalent, it is
-pub answer_true : (words : List (List ℕ)) (files : Option Files) (calls : List Call) (status : ℕ) (lines : List (List ℕ)) (name : List ℕ) (number : Option ℕ) → Answers words files calls status lines → IsName name → IsNumbered number →
+-- where a line of the answer to `compare` says that a pair is fully equivalent, it is
+compare_true : (words : List (List ℕ)) (files : Option Files) (old new : List ℕ) → IsCommand words (comparison old new) → (calls : List Call) (status : ℕ) (lines : List (List ℕ)) (name : List ℕ) (number : Option ℕ) → AnswersCompare files old new calls status lines → IsName name → IsNumbered number →
     Contains lines (full_line name number) → IsFullInFiles words files name number
-answer_true words files calls status lines name number (refused absent) is_name low among = absurd (no_pair among)
-  where
-    no_pair : Contains no_command (full_line name number) → ⊥
-    no_pair among = lone [] (codes "rvt: the words are no comman") 100 name number (λ e. omega (arith, e)) among
-answer_true words files calls status lines name number (old_fault old new is) is_name low among = absurd (lone old (codes ": cannot rea") 100 name number (λ e. omega (arith, e)) among)
-answer_true words files calls status lines name number (old_long old new is long) is_name low among = absurd (lone old (codes ": too lon") 103 name number (λ e. omega (arith, e)) among)
-answer_true words files calls status lines name number (new_fault old new bytes is whole) is_name low among = absurd (lone new (codes ": cannot rea") 100 name number (λ e. omega (arith, e)) among)
-answer_true words files calls status lines name number (new_long old new bytes is whole long) is_name low among = absurd (lone new (codes ": too lon") 103 name number (λ e. omega (arith, e)) among)
-answer_true words files calls status lines name number (compared old new old_bytes new_bytes is old_told new_told compares) is_name low among = by status lines compares among
+compare_true words files old new is calls status lines name number old_fault is_name low among = absurd (lone old (codes ": cannot rea") 100 name number (λ e. omega (arith, e)) among)
+compare_true words files old new is calls status lines name number (old_long long) is_name low among = absurd (lone old (codes ": too lon") 103 name number (λ e. omega (arith, e)) among)
+compare_true words files old new is calls status lines name number (new_fault bytes whole) is_name low among = absurd (lone new (codes ": cannot rea") 100 name number (λ e. omega (arith, e)) among)
+compare_true words files old new is calls status lines name number (new_long bytes whole long) is_name low among = absurd (lone new (codes ": too lon") 103 name number (λ e. omega (arith, e)) among)
+compare_true words files old new is calls status lines name number (compared old_bytes new_bytes old_told new_told compares) is_name low among = by status lines compares among
   where
     by : (status : ℕ) (lines : List (List ℕ)) → Compares old new old_bytes new_bytes status lines → Contains lines (full_line name number) → IsFullInFiles words files name number
     by status lines (old_refused refusal refuses none) among = absurd (no_refusal old refusal name number is_name among)
@@ -71,6 +43,14 @@ answer_true words files calls status lines name number (compared old new old_byt
       new_read = q_read;
       pair = All-contains (IsTrueLine p q) lines (full_line name number) report.truth among name number is_name low refl;
     }
+
+-- the same of each answer
+pub answer_true : (words : List (List ℕ)) (files : Option Files) (calls : List Call) (status : ℕ) (lines : List (List ℕ)) (name : List ℕ) (number : Option ℕ) → Answers words files calls status lines → IsName name → IsNumbered number →
+    Contains lines (full_line name number) → IsFullInFiles words files name number
+answer_true words files calls status lines name number (refused absent no_calls two are) is_name low among =
+    absurd (lone [] (codes "rvt: the words are no comman") 100 name number (λ e. omega (arith, e)) (subst (λ (ls : List (List ℕ)). Contains ls (full_line name number)) are among))
+answer_true words files calls status lines name number (compare old new is answers) is_name low among = compare_true words files old new is calls status lines name number answers is_name low among
+answer_true words files calls status lines name number (run file function arguments steps is answers) is_name low among = absurd (answers_run_no_full files file function arguments steps calls status lines name number answers is_name among)
 
 -- what was written behind these bytes
 piece_is : (written text piece : List ℕ) → Some (written ++ text) ≡ Some (written ++ piece) → text ≡ piece

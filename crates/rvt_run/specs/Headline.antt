@@ -4,7 +4,7 @@ use Rattle.std.specs.List.{Contains}
 use Rattle.rvt_edge.specs.Desk.{Files}
 use Rattle.rvt_tree.specs.declared.programs.Program.{Program}
 use Rattle.c_programs.specs.Readings.{IsReading}
-use Rattle.rvt_run.specs.Words.{IsCompare}
+use Rattle.command_words.specs.Commands.{comparison, IsCommand}
 use Rattle.rvt_run.specs.Answer.{IsWhole}
 use Rattle.rvt_run.specs.Report.{IsName, IsNumbered, full_line, IsFullPair}
 
@@ -22,7 +22,7 @@ lines_of text = lines_from [] text
 pub record IsFullInFiles (words : List (List ℕ)) (files : Option Files) (name : List ℕ) (number : Option ℕ) : Type 0 where
   pub old_name : List ℕ
   pub new_name : List ℕ
-  pub command : IsCompare words old_name new_name
+  pub command : IsCommand words (comparison old_name new_name)
   pub old_bytes : List ℕ
   pub new_bytes : List ℕ
   pub old_told : IsWhole files old_name old_bytes

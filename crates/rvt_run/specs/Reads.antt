@@ -27,7 +27,7 @@ abbrev pub IsReadBy : Option Files → List ℕ → Result (Vec ℕ Global) Unre
 IsReadBy files name (Ok bytes) = IsWhole files name bytes.items
 IsReadBy files name (Err why) = IsUnreadBy files name why
 
--- the status and the lines of a file that isn't there to be compared
+-- the status and the lines of a file that isn't there
 abbrev pub SaysUnread : List ℕ → Unread → ℕ → List (List ℕ) → Type 0
 SaysUnread name Failed status lines = (status ≡ 4) × (lines ≡ cannot_read name)
 SaysUnread name TooLong status lines = (status ≡ 3) × (lines ≡ too_long name)

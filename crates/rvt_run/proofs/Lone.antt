@@ -1,0 +1,33 @@
+-- Answers of one line that say nothing of a pair.
+use Rattle.std.proofs.Common.{◌≡◌, ℕ, zero, suc, ◌<◌, List, [], ◌∷◌, ◌++◌, get_or, Option, sym, ◌∙◌, ap, arith, append_assoc}
+use Rattle.std.specs.Prelude.{codes}
+use Rattle.std.specs.List.{Contains}
+use Rattle.c_source.specs.declared.refused.Refusal.{Refusal}
+use Rattle.rvt_run.specs.Answer.{refused_at, line}
+use Rattle.rvt_run.specs.Report.{IsName, unit_text, full_line}
+use Rattle.rvt_run.proofs.Placed.{placed_no_full}
+use Rattle.rvt_run.proofs.Truth.{same_end}
+
+pub apart : (n front : List ℕ) (x : ℕ) → (n ++ (front ++ x ∷ [])) ++ 10 ∷ [] ≡ (n ++ front) ++ x ∷ 10 ∷ []
+apart n front x = ap (λ (l : List ℕ). l ++ 10 ∷ []) (sym (append_assoc n front (x ∷ []))) ∙ append_assoc (n ++ front) (x ∷ []) (10 ∷ [])
+
+-- a line that ends otherwise isn't that of a full pair
+pub other_end : (first front name : List ℕ) (number : Option ℕ) (byte : ℕ) → line first (front ++ byte ∷ []) ≡ full_line name number → byte ≡ 110
+other_end first front name number byte e =
+    same_end (first ++ front) (unit_text name number ++ codes ": fully equivalent, twi") byte 110 (sym (apart first front byte) ∙ e ∙ apart (unit_text name number) (codes ": fully equivalent, twi") 110)
+
+-- one line whose text ends otherwise
+pub lone : (first front : List ℕ) (byte : ℕ) (name : List ℕ) (number : Option ℕ) → (byte ≡ 110 → ⊥) → Contains (line first (front ++ byte ∷ []) ∷ []) (full_line name number) → ⊥
+lone first front byte name number differs among = cases among.0 among.1 among.2
+  where
+    cases : (k : ℕ) → k < 1 → get_or (line first (front ++ byte ∷ []) ∷ []) k (full_line name number) ≡ full_line name number → ⊥
+    cases zero low is = differs (other_end first front name number byte is)
+    cases (suc k) low is = omega (arith, low)
+
+-- a refusal says nothing of a pair
+pub no_refusal : (file : List ℕ) (refusal : Refusal) (name : List ℕ) (number : Option ℕ) → IsName name → Contains (refused_at file refusal) (full_line name number) → ⊥
+no_refusal file refusal name number is_name among = cases among.0 among.1 among.2
+  where
+    cases : (k : ℕ) → k < 1 → get_or (refused_at file refusal) k (full_line name number) ≡ full_line name number → ⊥
+    cases zero low is = placed_no_full file refusal name number is_name is
+    cases (suc k) low is = omega (arith, low)
