@@ -1,0 +1,4 @@
+//! Laws of the joint programs of two files.
+#![tactic(auto)]
+
+pub mod laws;

@@ -1,0 +1,9 @@
+use Rattle.std.proofs.Common.{◌∷◌, map, sym, ap}
+use Rattle.joint_programs.specs.Parts.{field_parts}
+use Rattle.joint_programs.proofs.Seen.{one_seen}
+use Rattle.joint_programs.proofs.structs.fields_copied.Goals as goal
+
+pub fields-preserved : goal.fields-preserved
+fields-preserved c =
+    one_seen field_parts (map field_parts) c.fields.copies.items c.push.new.self.items c.fields.left.now c.in-Some.rest.now c.in-Some.first.now c.in_ok-copy.copy _
+    c.in-Some.ensures.cases.0 c.in_ok-push.ensures.items (ap (λ f. f ∷ map field_parts c.in-Some.rest.now) (sym c.in_ok-copy.ensures)) c.fields.invariant

@@ -1,0 +1,10 @@
+pub mod Parts
+pub mod Views
+pub mod Structs
+pub mod Objects
+pub mod Numbers
+pub mod Pairings
+pub mod JointPrograms
+pub mod Faults
+pub mod Frames
+pub mod Examples
