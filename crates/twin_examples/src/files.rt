@@ -95,3 +95,15 @@ fn names_that_the_map_matches(rt: HostRuntime) -> Result<(), Fail> {
     assert!(rt; two_objects.as_slice() == [None].as_slice());
     Ok(())
 }
+
+#[test]
+fn a_struct_that_is_named_before_its_body(rt: HostRuntime) -> Result<(), Fail> {
+    let file = "struct T;
+struct S { int x; };
+struct T { struct S s; int y; };
+int of_t(struct T *p) { return p->s.x + p->y; }
+";
+    let twins = twins(rt.alloc(), file, file, "")?;
+    assert!(rt; twins.as_slice() == [Some(0)].as_slice());
+    Ok(())
+}
