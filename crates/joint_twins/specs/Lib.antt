@@ -1,0 +1,4 @@
+pub mod Checks
+pub mod Files
+pub mod Joinable
+pub mod Twins
