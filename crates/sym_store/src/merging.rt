@@ -4,6 +4,7 @@ ghost use Rattle.bit_words.specs.Words.{AreThere};
 ghost use Rattle.sym_values.specs.Values.{all_lits, lits_of};
 ghost use Rattle.sym_store.specs.Merging.{merged_lit, merged_lits, merged_word, merged_value, merged_values, IsAlike, AreAlike};
 
+use crate::copies::push_value;
 use aig_build::{Circuit, Lit};
 use bit_ops::SymValue;
 use bit_words::Word;
@@ -126,13 +127,4 @@ fn merge_lit(circuit: &mut Circuit, which: Lit, a: Lit, b: Lit) -> Result<Lit, M
     }
     let lit = choice(circuit, which, a, b)?;
     Ok(lit)
-}
-
-fn push_value(values: &mut Vec<SymValue>, value: SymValue) -> Result<(), Memory>
-    ensures { OnOk result (values.new.items ≡ values.old.items ++ value ∷ []) }
-{
-    match values.push(value) {
-        Ok(()) => Ok(()),
-        Err(_) => Err(Memory),
-    }
 }
