@@ -117,26 +117,11 @@ fn other_words_are_no_command(rt: HostRuntime) -> Result<(), Fail> {
     Ok(())
 }
 
-// The status and the text of a run of a function of this file.
-fn run_of(alloc: Global, file: &str, words: &[&str]) -> Result<(u8, String), Fail> {
-    let mut all = Vec::new(alloc);
-    all.push("run")?;
-    all.push("a.c")?;
-    for word in words {
-        all.push(*word)?;
-    }
-    run(
-        alloc,
-        &[("a.c", file.as_bytes())],
-        all.as_slice(),
-        Vec::new(alloc),
-    )
-}
-
-// Whether the run of these words writes this line, with this status.
-fn says(alloc: Global, file: &str, words: &[&str], status: u8, line: &str) -> Result<bool, Fail> {
-    let (said, text) = run_of(alloc, file, words)?;
-    Ok(said == status && text.as_bytes().strip_suffix(b"\n") == Some(line.as_bytes()))
+// Whether these words, over a desk with the file a.c, give this status and this text.
+fn says(alloc: Global, file: &str, words: &[&str], status: u8, text: &str) -> Result<bool, Fail> {
+    let files = [("a.c", file.as_bytes())];
+    let (said, written) = run(alloc, &files, words, Vec::new(alloc))?;
+    Ok(said == status && written.as_str() == text)
 }
 
 #[test]
@@ -146,36 +131,36 @@ fn a_call_is_run(rt: HostRuntime) -> Result<(), Fail> {
         says(
             alloc,
             FACTORIAL,
-            &["f", "5"],
+            &["run", "a.c", "f", "5"],
             0,
-            "returns 120 after 5 steps"
+            "returns 120 after 5 steps\n"
         )?
     );
     assert!(rt;
         says(
             alloc,
             FACTORIAL,
-            &["f", "5", "--steps", "4"],
+            &["run", "a.c", "f", "5", "--steps", "4"],
             7,
-            "cut at 4 steps"
+            "cut at 4 steps\n"
         )?
     );
     assert!(rt;
         says(
             alloc,
             FACTORIAL,
-            &["--steps=1", "f", "1"],
+            &["run", "--steps=1", "a.c", "f", "1"],
             0,
-            "returns 1 after 1 steps"
+            "returns 1 after 1 steps\n"
         )?
     );
     assert!(rt;
         says(
             alloc,
             FACTORIAL,
-            &["f", "--", "-3"],
+            &["run", "a.c", "f", "--", "-3"],
             0,
-            "returns 1 after 1 steps"
+            "returns 1 after 1 steps\n"
         )?
     );
     Ok(())
@@ -184,20 +169,51 @@ fn a_call_is_run(rt: HostRuntime) -> Result<(), Fail> {
 #[test]
 fn a_call_is_refused(rt: HostRuntime) -> Result<(), Fail> {
     let alloc = rt.alloc();
-    assert!(rt; says(alloc, FACTORIAL, &["g", "1"], 3, "a.c: no function g")?);
-    assert!(rt; says(alloc, FACTORIAL, &["f"], 3, "wanted 1 arguments")?);
-    assert!(rt; says(alloc, FACTORIAL, &["f", "1", "x"], 3, "wanted 1 arguments")?);
     assert!(rt;
         says(
             alloc,
             FACTORIAL,
-            &["f", "2147483648"],
+            &["run", "a.c", "g", "1"],
             3,
-            "argument 1: not a value of its type"
+            "a.c: no function g\n"
         )?
     );
-    assert!(rt; says(alloc, "int g(int a);", &["g", "1"], 3, "a.c: no function g")?);
-    assert!(rt; says(alloc, "int f( {", &["f"], 3, "a.c:1:8: unexpected {")?);
+    assert!(rt;
+        says(
+            alloc,
+            FACTORIAL,
+            &["run", "a.c", "f"],
+            3,
+            "wanted 1 arguments\n"
+        )?
+    );
+    assert!(rt;
+        says(
+            alloc,
+            FACTORIAL,
+            &["run", "a.c", "f", "2147483648"],
+            3,
+            "argument 1: not a value of its type\n"
+        )?
+    );
+    assert!(rt;
+        says(
+            alloc,
+            "int f( {",
+            &["run", "a.c", "f"],
+            3,
+            "a.c:1:8: unexpected {\n"
+        )?
+    );
+    assert!(rt;
+        says(
+            alloc,
+            FACTORIAL,
+            &["run", "b.c", "f", "5"],
+            4,
+            "b.c: cannot read\n"
+        )?
+    );
     Ok(())
 }
 
@@ -209,32 +225,38 @@ fn a_run_stops(rt: HostRuntime) -> Result<(), Fail> {
         says(
             alloc,
             quotient,
-            &["f", "--", "-2147483648"],
+            &["run", "a.c", "f", "--", "-2147483648"],
             7,
-            "traps quotient after 1 steps"
-        )?
-    );
-    let shift = "int f(int a, int b){ return (1 << a) / b; }";
-    assert!(rt;
-        says(
-            alloc,
-            shift,
-            &["f", "40", "0"],
-            7,
-            "traps shift after 1 steps"
+            "traps quotient after 1 steps\n"
         )?
     );
     let endless = "int f(int n){ return f(n); }";
-    assert!(rt; says(alloc, endless, &["f", "0"], 7, "deep at 10000 calls")?);
-    let nothing = "int g; void f(int *p){ *p = 1; }";
-    assert!(rt; says(alloc, nothing, &["f", "&g[0]"], 0, "returns after 1 steps")?);
     assert!(rt;
         says(
             alloc,
-            nothing,
-            &["f", "&g[1]"],
+            endless,
+            &["run", "a.c", "f", "0"],
             7,
-            "traps place after 1 steps"
+            "deep at 10000 calls\n"
+        )?
+    );
+    let written = "int g; void f(int *p){ *p = 1; }";
+    assert!(rt;
+        says(
+            alloc,
+            written,
+            &["run", "a.c", "f", "&g[0]"],
+            0,
+            "returns after 1 steps\n"
+        )?
+    );
+    assert!(rt;
+        says(
+            alloc,
+            written,
+            &["run", "a.c", "f", "&g[1]"],
+            7,
+            "traps place after 1 steps\n"
         )?
     );
     Ok(())
@@ -244,11 +266,9 @@ fn a_run_stops(rt: HostRuntime) -> Result<(), Fail> {
 fn a_failed_put_hides_the_end(rt: HostRuntime) -> Result<(), Fail> {
     let alloc = rt.alloc();
     let files = [("a.c", FACTORIAL.as_bytes())];
-    let (status, text) = run(alloc, &files, &["run", "a.c", "f", "5"], vec![in alloc; 1]?)?;
+    let words = ["run", "a.c", "f", "5"];
+    let (status, text) = run(alloc, &files, &words, vec![in alloc; 1]?)?;
     assert_eq!(rt; text.as_str(), "");
-    assert_eq!(rt; status, 4);
-    let (status, text) = run(alloc, &files, &["run", "b.c", "f", "5"], Vec::new(alloc))?;
-    assert_eq!(rt; text.as_str(), "b.c: cannot read\n");
     assert_eq!(rt; status, 4);
     Ok(())
 }
