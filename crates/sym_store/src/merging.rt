@@ -27,7 +27,7 @@ pub fn merge(
     requires alike { AreAlike first.now second.now }
     ensures built { IfOk result (λ values. merged_values circuit.old which first.now second.now ≡ record { nodes = circuit.new; values = values.items }) }
     ensures there { IfOk result (λ values. AreThere circuit.new (all_lits values.items)) }
-    ensures grows { IfOk result (λ values. Grows circuit.old circuit.new) }
+    ensures grows { Grows circuit.old circuit.new }
 {
     let mut values = Vec::new(alloc);
     for at in 0..first.len() {
@@ -52,7 +52,7 @@ fn merge_value(
     requires alike { IsAlike first.now second.now }
     ensures built { IfOk result (λ value. merged_value circuit.old which first.now second.now ≡ record { nodes = circuit.new; value = value }) }
     ensures there { IfOk result (λ value. AreThere circuit.new (lits_of value)) }
-    ensures grows { IfOk result (λ value. Grows circuit.old circuit.new) }
+    ensures grows { Grows circuit.old circuit.new }
 {
     match (first, second) {
         (SymValue::Word(a), SymValue::Word(b)) => {
@@ -81,7 +81,7 @@ fn merge_word(
     requires same_kind { first.now.kind ≡ second.now.kind }
     ensures built { IfOk result (λ word. merged_word circuit.old which first.now second.now ≡ record { nodes = circuit.new; word = word }) }
     ensures there { IfOk result (λ word. AreThere circuit.new word.bits) }
-    ensures grows { IfOk result (λ word. Grows circuit.old circuit.new) }
+    ensures grows { Grows circuit.old circuit.new }
 {
     let bits = merge_lits(alloc, circuit, which, &first.bits, &second.bits)?;
     Ok(Word {
@@ -104,7 +104,7 @@ fn merge_lits(
     ensures built { IfOk result (λ lits. merged_lits circuit.old which first.now second.now ≡ record { nodes = circuit.new; lits = lits.items }) }
     ensures width { IfOk result (λ lits. length lits.items ≡ length first.now) }
     ensures there { IfOk result (λ lits. AreThere circuit.new lits.items) }
-    ensures grows { IfOk result (λ lits. Grows circuit.old circuit.new) }
+    ensures grows { Grows circuit.old circuit.new }
 {
     let mut lits = Vec::new(alloc);
     for at in 0..first.len() {
@@ -120,7 +120,7 @@ fn merge_lit(circuit: &mut Circuit, which: Lit, a: Lit, b: Lit) -> Result<Lit, M
     requires b_is_there { b.node < length circuit.old }
     ensures built { IfOk result (λ lit. merged_lit circuit.old which a b ≡ record { nodes = circuit.new; lit = lit }) }
     ensures there { IfOk result (λ lit. lit.node < length circuit.new) }
-    ensures grows { IfOk result (λ lit. Grows circuit.old circuit.new) }
+    ensures grows { Grows circuit.old circuit.new }
 {
     if a == b {
         return Ok(a);

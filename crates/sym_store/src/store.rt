@@ -66,8 +66,7 @@ impl SymStore {
         })
     }
 
-    /// Where the literal is true it stays as it was, and else it becomes the other store. After want of memory it is as it was, and
-    /// the circuit has perhaps more gates.
+    /// Where the literal is true it stays as it was, and else it becomes the other store. After want of memory it is only to be dropped.
     pub fn merge(
         &mut self,
         circuit: &mut Circuit,
@@ -80,7 +79,7 @@ impl SymStore {
         requires alike { AreStoresAlike self.old other.now }
         ensures built { OnOk result (merged_store circuit.old which self.old other.now ≡ record { nodes = circuit.new; store = self.new }) }
         ensures there { OnOk result (IsStoreThere circuit.new self.new) }
-        ensures grows { OnOk result (Grows circuit.old circuit.new) }
+        ensures grows { Grows circuit.old circuit.new }
     {
         let registers = merge(
             self.alloc,
