@@ -31,10 +31,10 @@ fn twins(alloc: Global, old: &str, new: &str, map: &str) -> Result<Vec<Option<u3
     let Ok(found) = joint_twins(alloc, old, new, &functions, &map) else {
         return Err(Fail::from("there are no joint programs"));
     };
-    let Some(twins) = found.twins else {
-        return Err(Fail::from("the programs don't stand over one table"));
-    };
-    Ok(Vec::from_slice(alloc, twins.functions.as_slice())?)
+    match &found.twins {
+        Some(twins) => Ok(Vec::from_slice(alloc, twins.functions.as_slice())?),
+        None => Err(Fail::from("the programs don't stand over one table")),
+    }
 }
 
 #[test]
