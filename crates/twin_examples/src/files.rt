@@ -5,7 +5,7 @@ use joint_twins::joint_twins;
 use rvt_tree::Program;
 use std::alloc::Global;
 use std::test::Fail;
-use version_map::read_map;
+use version_map::{Map, read_map};
 
 fn program(alloc: Global, text: &str) -> Result<Program, Fail> {
     match read_program(alloc, text.as_bytes()) {
@@ -14,13 +14,22 @@ fn program(alloc: Global, text: &str) -> Result<Program, Fail> {
     }
 }
 
+fn map_in(alloc: Global, text: &str) -> Result<Map, Fail> {
+    let bytes = text.as_bytes();
+    if bytes.len() > 1_048_576 {
+        return Err(Fail::from("the map is too long"));
+    }
+    match read_map(alloc, bytes) {
+        Ok(map) => Ok(map),
+        Err(_) => Err(Fail::from("the map is refused")),
+    }
+}
+
 /// The twin of each function of the old file.
 fn twins(alloc: Global, old: &str, new: &str, map: &str) -> Result<Vec<Option<u32>>, Fail> {
     let old = program(alloc, old)?;
     let new = program(alloc, new)?;
-    let Ok(map) = read_map(alloc, map.as_bytes()) else {
-        return Err(Fail::from("the map is refused"));
-    };
+    let map = map_in(alloc, map)?;
     let FunctionPairs { of_old, of_new } = function_pairs(
         alloc,
         old.functions.as_slice(),
