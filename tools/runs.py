@@ -1,7 +1,7 @@
 #!/usr/bin/env python3
 """Writes what gcc computes for the runs that files of C ask for: python3 tools/runs.py FILE.c..
 
-A line `// run: FUNCTION ARG..` of FILE.c becomes a line `FUNCTION ARG..: returns V after N steps` of FILE.txt. V is the result of the
+A line `// run: FUNCTION ARG..` of FILE.c becomes a line `FUNCTION ARG..: returns V after N steps` of FILE.runs. V is the result of the
 function compiled with -fwrapv. N is counted in the compiled program: one at the entry of each function (gcc's -finstrument-functions), and
 one at each test of a loop, put into the text between the brackets of each `while` and into the middle of each header of a `for`.
 """
@@ -64,4 +64,4 @@ for name in sys.argv[1:]:
     text = source.read_text()
     wanted = re.findall(r"^// run: (.*)$", text, re.M)
     text = counted(re.sub(r"//.*", "", text))
-    source.with_suffix(".txt").write_text("".join(run(text, words.split()) for words in wanted))
+    source.with_suffix(".runs").write_text("".join(run(text, words.split()) for words in wanted))

@@ -1,3 +1,19 @@
+// run: add 2147483647 1
+// run: sub -- -2147483648 1
+// run: mul 65536 65537
+// run: neg -- -2147483648
+// run: quotient -- -7 2
+// run: rest -- -7 2
+// run: rest -- 7 -3
+// run: left 1 31
+// run: right -- -9 1
+// run: flip 0
+// run: logic 0 5
+// run: logic 7 0
+// run: mixed -- -1 1
+// run: choose 5 9
+// run: bits 202 119
+// run: not_twice 77
 int add(int a, int b) { return a + b; }
 int sub(int a, int b) { return a - b; }
 int mul(int a, int b) { return a * b; }

@@ -1,3 +1,17 @@
+// run: sieve 100
+// run: sort 3 1 2
+// run: matrix 4
+// run: queens
+// run: edit
+// run: knapsack 50
+// run: search 7
+// run: search 8
+// run: rows 3
+// run: partly
+// run: global_kept 6
+// run: memo 30
+// run: histogram
+// run: rotate 3
 int sieve(int n) {
     _Bool out[200] = { 0 };
     int count = 0;

@@ -1,5 +1,22 @@
 #include <stdint.h>
 #include <stdbool.h>
+// run: to_char 300
+// run: to_char 200
+// run: to_short -- -40000
+// run: to_bool 256
+// run: promote 255 255
+// run: unsigned_wrap 3
+// run: long_product 4000000000 4000000000
+// run: long_less -- -1
+// run: big 18446744073709551615
+// run: shift_long 40
+// run: char_sum 100 100
+// run: bool_add 1 1
+// run: limits
+// run: literal
+// run: char_literals
+// run: compare_kinds 5
+// run: narrow 70000
 int to_char(int a) { signed char c = a; return c; }
 int to_short(int a) { short s = a; return s; }
 int to_bool(int a) { _Bool b = a; return b; }

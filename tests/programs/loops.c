@@ -1,3 +1,20 @@
+// run: sum 10
+// run: sum 0
+// run: squares 7
+// run: until 100
+// run: skip 10
+// run: stop 1000
+// run: nested 5
+// run: collatz 27
+// run: gcd 1071 462
+// run: gcd 0 0
+// run: reverse 12345
+// run: digits 9876543
+// run: power 3 13 1000
+// run: root 1000000
+// run: primes 100
+// run: fibonacci 40
+// run: two 10
 int sum(int n) { int s = 0; int i; for (i = 0; i < n; i++) s += i; return s; }
 int squares(int n) { int s = 0; int i = 1; while (i <= n) { s = s + i * i; i++; } return s; }
 int until(int n) { int i = 1; do { i = i * 2; } while (i < n); return i; }

@@ -1,6 +1,25 @@
 #include <stdint.h>
 #include <stdbool.h>
 #define SIZE 4
+// run: ring 7
+// run: counters 5
+// run: constants 10
+// run: checksum
+// run: crc
+// run: fnv
+// run: lfsr 20
+// run: leap 2000 1900 2024
+// run: weekday 2026 12 1
+// run: gray 10
+// run: popcount 4042322160
+// run: bit_reverse 1
+// run: saturating 250 10
+// run: sizes
+// run: order
+// run: shadow 3
+// run: compound 10
+// run: ternaries 5
+// run: voids 3
 typedef struct { uint8_t items[SIZE]; uint8_t head; uint8_t tail; } Ring;
 static Ring ring_buffer;
 static bool put(uint8_t b) { uint8_t next = (ring_buffer.head + 1) % SIZE; if (next == ring_buffer.tail) return false; ring_buffer.items[ring_buffer.head] = b; ring_buffer.head = next; return true; }

@@ -1,5 +1,20 @@
 #include <stdint.h>
 #include <stddef.h>
+// run: swapped 3 4
+// run: summed
+// run: through 5
+// run: walked
+// run: copied
+// run: middle
+// run: equal
+// run: null_tested
+// run: fields 7
+// run: nested_fields
+// run: element 2
+// run: chained 9
+// run: added 5
+// run: moved
+// run: backwards
 static void swap(int *p, int *q) { int t = *p; *p = *q; *q = t; }
 int swapped(int a, int b) { swap(&a, &b); return a * 10 + b; }
 static int sum(const int *p, int n) { int s = 0; for (int i = 0; i < n; i++) s += p[i]; return s; }

@@ -1,3 +1,13 @@
+// run: factorial 12
+// run: fib 15
+// run: ackermann 2 3
+// run: hanoi 8
+// run: is_even 50
+// run: is_odd 50
+// run: binomial 10 4
+// run: digits 98765
+// run: f91 50
+// run: deepest 5000
 int factorial(int n) { if (n <= 1) return 1; return n * factorial(n - 1); }
 int fib(int n) { return n < 2 ? n : fib(n - 1) + fib(n - 2); }
 int ackermann(int m, int n) { if (m == 0) return n + 1; if (n == 0) return ackermann(m - 1, 1); return ackermann(m - 1, ackermann(m, n - 1)); }

@@ -1,3 +1,16 @@
+// run: plain 2
+// run: plain 9
+// run: grouped 3
+// run: grouped 4
+// run: no_default 5
+// run: first_default 1
+// run: first_default 7
+// run: in_loop 10
+// run: returns 66
+// run: machine
+// run: wide -- -1
+// run: nested 1 2
+// run: scoped 2
 enum state { IDLE, RUNNING = 5, DONE };
 int plain(int n) { switch (n) { case 1: return 10; case 2: return 20; default: return 30; } }
 int grouped(int n) { int r = 0; switch (n) { case 1: case 2: case 3: r = 1; break; case 4: r = 2; break; default: r = 9; } return r; }
