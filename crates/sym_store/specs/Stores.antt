@@ -42,6 +42,9 @@ pub record AreStoresAlike (s t : LitStore) : Type 0 where
 abbrev pub with_value : LitStore → ℕ → SymValue → LitStore
 with_value s r x = record { registers = slice_set s.registers r x; cells = s.cells }
 
+abbrev pub with_cell_value : LitStore → ℕ → SymValue → LitStore
+with_cell_value s c x = record { registers = s.registers; cells = slice_set s.cells c x }
+
 -- a register's value is what the state's register holds
 abbrev pub RegisterLaw : Type 0
 RegisterLaw = (v : Valuation) (s : LitStore) (state : State) (r : ℕ) (x : SymValue) → StandsFor v s state → slice_get s.registers r ≡ Some x → value_under v x ≡ Some (register state.registers r)

@@ -18,7 +18,8 @@ fn copy_word(alloc: Global, word: &Word) -> Result<Word, Memory>
     })
 }
 
-fn copy_value(alloc: Global, value: &SymValue) -> Result<SymValue, Memory>
+/// An equal value.
+pub fn copy_value(alloc: Global, value: &SymValue) -> Result<SymValue, Memory>
     ensures { IfOk result (λ copy. copy ≡ value.now) }
 {
     match value {

@@ -6,5 +6,6 @@ pub mod laws;
 mod merging;
 mod store;
 
-pub use merging::merge;
+pub use copies::copy_value;
+pub use merging::{merge, merge_value};
 pub use store::SymStore;

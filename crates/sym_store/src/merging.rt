@@ -37,9 +37,9 @@ pub fn merge(
     Ok(values)
 }
 
-/// The first value where the literal is true, else the second.
+/// The first value where the literal is true, else the second. Where both have one literal, no gate is made.
 #[tactic(auto, unfolding(crate::specs::Merging::merged_value))]
-fn merge_value(
+pub fn merge_value(
     alloc: Global,
     circuit: &mut Circuit,
     which: Lit,

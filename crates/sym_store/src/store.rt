@@ -2,7 +2,7 @@
 
 ghost use Rattle.std.specs.Prelude.{◌≡◌, ◌<◌, Some, length, slice_get, IfOk, OnOk};
 ghost use Rattle.aig_build.specs.Circuits.{Grows};
-ghost use Rattle.sym_store.specs.Stores.{with_value, merged_store, IsStoreThere, AreStoresAlike};
+ghost use Rattle.sym_store.specs.Stores.{with_cell_value, with_value, merged_store, IsStoreThere, AreStoresAlike};
 
 use crate::copies::copy_values;
 use crate::merging::merge;
@@ -46,11 +46,32 @@ impl SymStore {
         &self.registers[register as usize]
     }
 
+    pub fn registers(&self) -> &[SymValue]
+        ensures { result.now ≡ self.now.registers }
+    {
+        &self.registers
+    }
+
+    /// The mutable cells of all objects.
+    pub fn cells(&self) -> &[SymValue]
+        ensures { result.now ≡ self.now.cells }
+    {
+        &self.cells
+    }
+
     pub fn set(&mut self, register: u32, value: SymValue)
         requires is_there { register < length self.old.registers }
         ensures { self.new ≡ with_value self.old register value }
     {
         self.registers[register as usize] = value;
+    }
+
+    /// Sets a mutable cell, by its number among those of all objects.
+    pub fn set_cell(&mut self, cell: u64, value: SymValue)
+        requires is_there { cell < length self.old.cells }
+        ensures { self.new ≡ with_cell_value self.old cell value }
+    {
+        self.cells[cell as usize] = value;
     }
 
     /// An equal store.

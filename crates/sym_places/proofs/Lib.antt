@@ -1,0 +1,4 @@
+pub mod AimsHold
+pub mod Holding
+pub mod ReadValues
+pub mod WriteValues
