@@ -1,4 +1,5 @@
 pub mod Applications
 pub mod Congruence
+pub mod Testing
 pub mod Applying
 pub mod Names
