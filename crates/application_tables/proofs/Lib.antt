@@ -1,0 +1,5 @@
+pub mod Lawful
+pub mod Making
+pub mod FreshBits
+pub mod Encodings
+pub mod Realized
