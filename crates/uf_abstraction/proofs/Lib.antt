@@ -2,6 +2,8 @@ pub mod FirstEntries
 pub mod Lookups
 pub mod Functions
 pub mod Tests
+pub mod Loops
+pub mod Grouping
 pub mod TestsTell
 pub mod Questions
 pub mod FreshAnswers

@@ -155,15 +155,16 @@ module _ (v : Valuation) where
   long_both xs ys e = long_map v xs ∙ e ∙ sym (long_map v ys)
 
   -- the word, with one bit more, is this number
-  pub object_says : (ns : List Node) (xs : List Lit) (n : ℕ) → n < 2 ^ (length xs + 1) → Says ns (equal_built ns (xs ++ constant false ∷ []) (number_lits (length xs + 1) n)) (number_of_bits (map v xs) ≡ n)
+  pub object_says : (ns : List Node) (xs : List Lit) (n : ℕ) → n < 2 ^ (length xs + 1) → Says ns (equal_built ns (xs ++ constant false ∷ []) (number_lits (length (xs ++ constant false ∷ [])) n)) (number_of_bits (map v xs) ≡ n)
   object_says ns xs n s =
       let more = xs ++ constant false ∷ [] in
-      let lits = number_lits (length xs + 1) n in
-      let long : length more ≡ length lits = long_push xs (constant false) ∙ sym (long_number (length xs + 1) n) in
+      let lits = number_lits (length more) n in
+      let long : length more ≡ length lits = sym (long_number (length more) n) in
+      let below : n < 2 ^ length more = subst (λ k. n < 2 ^ k) (sym (long_push xs (constant false))) s in
       let wide = λ (h : IsValuation ns v). ap number_of_bits (map_append v xs (constant false ∷ []) ∙ ap (λ b. map v xs ++ b ∷ []) h.of_constant) ∙ with_zero (map v xs) in
       as_known ns (equal_built ns more lits) (map v more ≡ map v lits) (number_of_bits (map v xs) ≡ n)
-      (λ h e. sym (wide h) ∙ ap number_of_bits e ∙ number_is ns h (length xs + 1) n s)
-      (λ h e. bits_same (map v more) (map v lits) (long_both more lits long) (wide h ∙ e ∙ sym (number_is ns h (length xs + 1) n s)))
+      (λ h e. sym (wide h) ∙ ap number_of_bits e ∙ number_is ns h (length more) n below)
+      (λ h e. bits_same (map v more) (map v lits) (long_both more lits long) (wide h ∙ e ∙ sym (number_is ns h (length more) n below)))
       (same_says ns more lits long)
 
   -- the word is at most this number

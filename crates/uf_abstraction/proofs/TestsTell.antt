@@ -198,7 +198,8 @@ module _ (v : Valuation) where
     target_says : (ns : List Node) (t : Target) → IsSmall t → Says v ns (target_built ns o c t) ((Object ≡ t.0 + 1) × (Cell ≤ t.1))
     unfolding target_built
     target_says ns t s =
-        let object = equal_built ns (o.bits ++ constant false ∷ []) (number_lits (length o.bits + 1) (t.0 + 1)) in
+        let more = o.bits ++ constant false ∷ [] in
+        let object = equal_built ns more (number_lits (length more) (t.0 + 1)) in
         both_say v ns object (carried_built object.nodes Less (constant true) c.bits (number_lits (length c.bits) t.1)) _ _
         (object_says v ns o.bits (t.0 + 1) (small_object t.0 (length o.bits) s.object wide_o))
         (within_says v object.nodes c.bits t.1 (subst (λ k. t.1 < 2 ^ k) (sym wide_c) s.cells))

@@ -3,3 +3,4 @@ pub mod Congruence
 pub mod Testing
 pub mod Applying
 pub mod Names
+pub mod Groups

@@ -74,7 +74,8 @@ number_lits (suc w) n = constant (n % 2 == 1) ∷ number_lits w (n / 2)
 -- the object word is the target's number and one, which may have a bit more than a word, and the cell word is at most its length
 unfoldable pub target_built : List Node → LitWord → LitWord → Target → Made
 target_built ns o c target =
-    let object = equal_built ns (o.bits ++ constant false ∷ []) (number_lits (length o.bits + 1) (target.0 + 1)) in
+    let more = o.bits ++ constant false ∷ [] in
+    let object = equal_built ns more (number_lits (length more) (target.0 + 1)) in
     let within = carried_built object.nodes Less (constant true) c.bits (number_lits (length c.bits) target.1) in
     and_built within.nodes object.lit within.lit
 
@@ -133,6 +134,11 @@ pub record AreLaidOut (applied : List Application) : Type 0 where
   pub given : EntryName → LitShape
   pub keys : EntryName → List Shape
   pub laid : AllByRecursion (IsLaidOut given keys) applied
+
+-- the lists of literals of two applications are equally long
+pub record IsComparable (a b : Application) : Type 0 where
+  pub keys : length (all_lits a.key) ≡ length (all_lits b.key)
+  pub answers : length (answer_lits a.answer) ≡ length (answer_lits b.answer)
 
 -- the number and the length of a target have 32 bits
 pub record IsSmall (target : Target) : Type 0 where
