@@ -8,7 +8,6 @@ use Rattle.std.proofs.lemmas.List.{take_more, at_drop_more, at_drop_all}
 use Rattle.aig_build.specs.Built.{Made}
 use Rattle.aig_build.specs.Circuits.{Node, Grows}
 use Rattle.bit_words.proofs.RippleCarry.{AreThere-later}
-use Rattle.aig_build.specs.declared.lits.Lit.{Lit}
 use Rattle.core_ir.proofs.Keys.{name_same, name_is}
 use Rattle.core_ir.specs.Tables.{EntryName as Name, same_name}
 use Rattle.core_ir.specs.declared.units.Shape.{Shape}
@@ -21,7 +20,7 @@ use Rattle.uf_abstraction.specs.Applications.{LitShape, Application, answer_lits
 use Rattle.uf_abstraction.specs.Applying.{IsThere}
 use Rattle.uf_abstraction.specs.Congruence.{IsLaidOut}
 use Rattle.uf_abstraction.specs.Groups.{at_places, or_none, places_of, AreGroups, IsNoted}
-use Rattle.uf_abstraction.specs.Names.{meant, application_of, IsAsked}
+use Rattle.uf_abstraction.specs.Names.{meant, application_of}
 use Rattle.uf_abstraction.specs.Testing.{named, with_pair, with_earlier, with_answer, with_application, MadeTest, IsComparable, AreLaidOut}
 use Rattle.uf_abstraction.specs.contracts.names.EntryNamePartialEq.TheImpl.{eq-value}
 use Rattle.uf_abstraction.specs.declared.applications.Question.{Question}

@@ -2,18 +2,17 @@
 use Rattle.std.proofs.Common.{◌≡◌, ℕ, zero, suc, ◌+◌, ◌-◌, ◌/◌, ◌%◌, ◌<◌, ◌≤◌, List, [], ◌∷◌, ◌++◌, length, drop, refl, sym, ap, ◌∙◌, subst, arith, get_or, append_assoc}
 use Rattle.std.specs.Prelude.{fold, ◌==◌}
 use Rattle.std.proofs.lemmas.List.{at_drop_more, at_drop_all}
-use Rattle.aig_build.proofs.Nodes.{Grows-refl, Grows-trans}
+use Rattle.aig_build.proofs.Nodes.{Grows-trans}
 use Rattle.aig_build.specs.Built.{Made}
 use Rattle.aig_build.specs.Circuits.{Node, Grows, constant}
 use Rattle.aig_build.specs.declared.lits.Lit.{Lit}
 use Rattle.bit_ops.specs.declared.values.SymValue.{SymValue}
-use Rattle.bit_words.proofs.ConvertValues.{AreThere-append}
-use Rattle.bit_words.specs.Words.{AreThere, LitWord}
+use Rattle.bit_words.specs.Words.{AreThere}
 use Rattle.core_ir.specs.declared.units.Shape.{Shape}
 use Rattle.sym_values.specs.Values.{lits_of, all_lits}
 use Rattle.rvt_num.specs.declared.values.Trap.{Trap}
 use Rattle.uf_abstraction.specs.Applications.{Target, trap_lits}
-use Rattle.uf_abstraction.specs.Testing.{number_lits, or_target, with_result, with_results}
+use Rattle.uf_abstraction.specs.Testing.{number_lits, with_result, with_results}
 
 abbrev pub made : List Node → Lit → Made
 made ns lit = record { nodes = ns; lit = lit }

@@ -1,6 +1,6 @@
 -- Literals that tell facts: conjunctions and disjunctions of such, and tests of lists of literals.
 use Rattle.std.proofs.Common.{◌≡◌, ℕ, zero, suc, ◌+◌, ◌*◌, ◌/◌, ◌%◌, ◌<◌, ◌≤◌, ◌^◌, Bool, true, false, not, ◌&&◌, ◌||◌, List, [], ◌∷◌, ◌++◌, length, refl, sym, ap, ◌∙◌, subst, arith, true≢false, ◌⊎◌, inl, inr, nat_lt}
-use Rattle.std.proofs.lemmas.Bool.{and_parts, and_from, eqb-true, eq-eqb}
+use Rattle.std.proofs.lemmas.Bool.{and_parts, and_from}
 use Rattle.std.proofs.lemmas.Bool.Decides.{nat_tests}
 use Rattle.std.proofs.Math.Nat.{pow-suc}
 use Rattle.std.specs.Prelude.{map, replicate, ◌==◌}
@@ -174,8 +174,8 @@ module _ (v : Valuation) where
       let long : length xs ≡ length lits = sym (long_number (length xs) n) in
       let r = ripple_gives v Less ns (constant true) xs lits in
       let worth = λ (h : IsValuation (carried_built ns Less (constant true) xs lits).nodes v).
-          r.carries h ∙ ap (λ c. ripple_carry Less c (map v xs) (map v lits)) (constant_true v ns (r.back h))
-          ∙ less_is true (map v xs) (map v lits) (long_both xs lits long) ∙ ap (λ k. nat_lt (number_of_bits (map v xs)) (k + 1)) (number_is ns (r.back h) (length xs) n s) in
+      r.carries h ∙ ap (λ c. ripple_carry Less c (map v xs) (map v lits)) (constant_true v ns (r.back h))
+      ∙ less_is true (map v xs) (map v lits) (long_both xs lits long) ∙ ap (λ k. nat_lt (number_of_bits (map v xs)) (k + 1)) (number_is ns (r.back h) (length xs) n s) in
       record {
         back = r.back;
         holds = λ h e. at_most _ n (sym (worth h) ∙ e);

@@ -1,5 +1,5 @@
 -- The test of congruence is true exactly where the applications are congruent.
-use Rattle.std.proofs.Common.{◌≡◌, ℕ, zero, suc, ◌+◌, ◌<◌, ◌≤◌, ◌^◌, Bool, true, false, not, ◌&&◌, ◌||◌, cond, List, [], ◌∷◌, ◌++◌, length, Option, Some, None, refl, sym, ap, ◌∙◌, subst, arith, true≢false, ◌⊎◌, inl, inr}
+use Rattle.std.proofs.Common.{◌≡◌, ℕ, zero, suc, ◌+◌, ◌<◌, ◌≤◌, ◌^◌, Bool, true, false, not, ◌&&◌, ◌||◌, cond, List, [], ◌∷◌, ◌++◌, length, refl, sym, ap, ◌∙◌, subst, arith, true≢false, ◌⊎◌, inl, inr}
 use Rattle.std.proofs.lemmas.Bool.{and_parts, and_from}
 use Rattle.std.proofs.lemmas.List.{append-nil}
 use Rattle.std.specs.Prelude.{map, fold}
@@ -10,7 +10,7 @@ use Rattle.aig_build.specs.declared.lits.Lit.{Lit}
 use Rattle.bit_ops.specs.declared.values.SymValue.{SymValue}
 use Rattle.bit_ops.specs.declared.values.SymValue.TheVariants.{Word, Pointer}
 use Rattle.bit_words.specs.Built.{or_built, carried_built}
-use Rattle.bit_words.specs.Words.{LitWord, number_of_bits}
+use Rattle.bit_words.specs.Words.{LitWord}
 use Rattle.bit_words.specs.declared.cells.Cell.TheVariants.{Less}
 use Rattle.core_ir.proofs.Keys.{name_same, name_is}
 use Rattle.core_ir.specs.Calls.{Among}
@@ -18,13 +18,11 @@ use Rattle.core_ir.specs.Tables.{EntryName, same_name}
 use Rattle.core_ir.specs.declared.units.Shape.{Shape}
 use Rattle.core_ir.specs.declared.units.Shape.TheVariants as shape
 use Rattle.rvt_num.specs.declared.values.Trap.{Trap}
-use Rattle.rvt_num.specs.declared.values.Value.{Value}
 use Rattle.sym_values.proofs.Conjunctions.{conjunction}
 use Rattle.sym_values.proofs.Ripples.{or_gives}
 use Rattle.sym_values.proofs.SameBits.{long_map}
-use Rattle.sym_values.specs.Gates.{Tells}
 use Rattle.sym_values.specs.Valuations.{Valuation, IsValuation, Gives}
-use Rattle.sym_values.specs.Values.{pattern_under, pointer_of, value_under, all_lits, IsWordOf, AreLaid}
+use Rattle.sym_values.specs.Values.{pattern_under, pointer_of, value_under, all_lits, AreLaid}
 use Rattle.uf_abstraction.proofs.Functions.{key_tells, answers_long}
 use Rattle.uf_abstraction.proofs.Tests.{left_true, right_true, Says, as_well, both_say, either_says, then_says, same_says, object_says, within_says, null_says}
 use Rattle.uf_abstraction.proofs.Tests.{nothing}

@@ -83,12 +83,7 @@ fn or_target(
 }
 
 /// Whether a pointer is null: all its bits are zero.
-fn is_null(
-    alloc: Global,
-    circuit: &mut Circuit,
-    object: &Word,
-    cell: &Word,
-) -> Result<Lit, Memory>
+fn is_null(alloc: Global, circuit: &mut Circuit, object: &Word, cell: &Word) -> Result<Lit, Memory>
     requires some { 0 < length circuit.old }
     requires object_is_there { AreThere circuit.old object.now.bits }
     requires cell_is_there { AreThere circuit.old cell.now.bits }

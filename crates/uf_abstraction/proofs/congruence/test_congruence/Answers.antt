@@ -11,10 +11,11 @@ use Rattle.uf_abstraction.proofs.congruence.test_congruence.Goals as goal
 
 pub made-init : goal.made-init
 made-init c =
-    let applied = map application_of c.args.made.now.entries in
-    (ap (λ (l : Lit). fold with_application (record { nodes = c.args.circuit.now; lit = l; before = [] }) applied) c.constant-lit.ensures,
-    record { grows = Grows-refl _; there = subst (λ (l : Lit). l.node < length c.args.circuit.now) (sym c.constant-lit.ensures) c.requires.some },
-    subst (λ es. AreGroups applied 0 (places_of es)) (sym c.new-groups.ensures.empty) (no_groups applied))
+    let applied = map application_of c.args.made.now.entries in (
+      ap (λ (l : Lit). fold with_application (record { nodes = c.args.circuit.now; lit = l; before = [] }) applied) c.constant-lit.ensures,
+      record { grows = Grows-refl _; there = subst (λ (l : Lit). l.node < length c.args.circuit.now) (sym c.constant-lit.ensures) c.requires.some },
+      subst (λ es. AreGroups applied 0 (places_of es)) (sym c.new-groups.ensures.empty) (no_groups applied),
+    )
 
 pub with_application-requires-clause-so_far_is_there : goal.with_application-requires-clause-so_far_is_there
 with_application-requires-clause-so_far_is_there c = c.made.invariant.1.there

@@ -1,4 +1,4 @@
-use Rattle.std.proofs.Common.{◌∙◌, ◌++◌, ap, sym, subst}
+use Rattle.std.proofs.Common.{◌∙◌, ap, sym, subst}
 use Rattle.aig_build.proofs.Nodes.{Grows-trans}
 use Rattle.bit_words.proofs.RippleCarry.{AreThere-later}
 use Rattle.bit_words.specs.Words.{AreThere}

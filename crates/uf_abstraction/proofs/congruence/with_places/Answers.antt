@@ -34,9 +34,10 @@ with_pair-requires-clause-comparable c =
 
 pub places-preserved : goal.places-preserved
 places-preserved c =
-    let f = c.in_ok-lit.ensures in
-    (places_step _ _ c.args.places.now c.places.at _ _ _ _ _ c.places.invariant.0 c.places-test.true (got_mapped c.args.made.now.entries _ _ _ c.entry.ensures) f.built,
-    IsGrown-step _ _ _ _ _ c.places.invariant.1 f.grows f.there)
+    let f = c.in_ok-lit.ensures in (
+      places_step _ _ c.args.places.now c.places.at _ _ _ _ _ c.places.invariant.0 c.places-test.true (got_mapped c.args.made.now.entries _ _ _ c.entry.ensures) f.built,
+      IsGrown-step _ _ _ _ _ c.places.invariant.1 f.grows f.there,
+    )
 
 pub returns-clause-built : goal.returns-clause-built
 returns-clause-built c = places_all _ _ c.args.places.now c.places.at _ _ c.places.invariant.0 c.places-test.false

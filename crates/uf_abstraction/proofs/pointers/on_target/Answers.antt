@@ -1,6 +1,5 @@
-use Rattle.std.proofs.Common.{◌<◌, ◌∙◌, ◌++◌, ◌∷◌, [], length, ap, sym, subst, arith}
+use Rattle.std.proofs.Common.{◌∙◌, ◌++◌, ◌∷◌, [], ap, sym, subst, arith}
 use Rattle.aig_build.proofs.Nodes.{Grows-length}
-use Rattle.aig_build.specs.declared.lits.Lit.{Lit}
 use Rattle.bit_words.proofs.ConvertValues.{AreThere-append}
 use Rattle.bit_words.proofs.RippleCarry.{AreThere-later}
 use Rattle.bit_words.specs.Words.{AreThere, LitWord}

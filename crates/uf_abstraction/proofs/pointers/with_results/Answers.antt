@@ -1,4 +1,4 @@
-use Rattle.std.proofs.Common.{◌<◌, length, refl, arith}
+use Rattle.std.proofs.Common.{refl, arith}
 use Rattle.aig_build.proofs.Nodes.{Grows-refl}
 use Rattle.bit_words.proofs.RippleCarry.{AreThere-later}
 use Rattle.uf_abstraction.proofs.Loops.{IsGrown-step, results_all, results_step, value_there}
