@@ -1,5 +1,5 @@
 -- The bits with which literals of a layout stand for a value, and for an answer.
-use Rattle.std.proofs.Common.{◌≡◌, ℕ, zero, suc, ◌+◌, ◌-◌, ◌*◌, ◌/◌, ◌%◌, ◌<◌, ◌≤◌, ◌^◌, nat_lt, nat_eq, Bool, true, false, cond, if◌then◌else◌, List, [], ◌∷◌, ◌++◌, length, Option, Some, None, refl, sym, ap, ◌∙◌, subst, arith, inl, inr, true≢false, ℤ}
+use Rattle.std.proofs.Common.{◌≡◌, ℕ, zero, suc, ◌+◌, ◌-◌, ◌/◌, ◌%◌, ◌<◌, ◌≤◌, ◌^◌, nat_lt, nat_eq, Bool, true, false, cond, if◌then◌else◌, List, [], ◌∷◌, ◌++◌, length, Option, Some, None, refl, sym, ap, ◌∙◌, subst, arith, inl, inr, true≢false, ℤ}
 use Rattle.std.specs.Prelude.{map, pos, negsuc, ◌≤ℤ◌, ◌==◌, slice_get}
 use Rattle.std.specs.List.{AllByRecursion}
 use Rattle.std.proofs.lemmas.Bool.Decides.{nat_tests}
@@ -30,7 +30,7 @@ use Rattle.sym_values.proofs.SameBits.{long_map, map_append, append_same}
 use Rattle.sym_values.specs.Valuations.{Valuation}
 use Rattle.sym_values.specs.Values.{pattern_under, pointer_of, value_under, both_stand, values_under, lits_of, all_lits, IsWordOf, IsLaid, AreLaid}
 use Rattle.uf_abstraction.specs.Applications.{Target, trap_lits, first_trap}
-use Rattle.uf_abstraction.specs.Congruence.{AtMostOne, IsIn, IsOnTarget, ArePointersOn}
+use Rattle.uf_abstraction.specs.Congruence.{AtMostOne, IsOnTarget, ArePointersOn}
 use Rattle.uf_abstraction.specs.Testing.{IsSmall}
 use Rattle.application_tables.specs.Lawful.{IsTargetOf}
 

@@ -1,11 +1,11 @@
 -- Fresh inputs take the next bits of an assignment, and what was there before keeps its values.
-use Rattle.std.proofs.Common.{◌≡◌, ℕ, zero, suc, ◌+◌, ◌-◌, ◌<◌, ◌≤◌, Bool, false, cond, List, [], ◌∷◌, ◌++◌, length, take, drop, Some, None, refl, sym, ap, ◌∙◌, subst, arith, get_or, append_assoc, length-append, add-zero}
+use Rattle.std.proofs.Common.{◌≡◌, ℕ, zero, suc, ◌+◌, ◌-◌, ◌<◌, ◌≤◌, Bool, false, cond, List, [], ◌∷◌, ◌++◌, length, take, drop, Some, None, refl, sym, ap, ◌∙◌, subst, arith, get_or, length-append}
 use Rattle.std.specs.Prelude.{map, fold, count_by, is_none}
-use Rattle.std.proofs.lemmas.List.{length_push, append-nil, get_or_append_left, get_or_push}
+use Rattle.std.proofs.lemmas.List.{length_push, get_or_append_left, get_or_push}
 use Rattle.std.proofs.lemmas.List.Sums.{sum_by-append}
-use Rattle.aig_build.proofs.Nodes.{Grows-refl, Grows-trans, Grows-push, Grows-keeps, progress_push, values_length, count_cons, taken_is}
+use Rattle.aig_build.proofs.Nodes.{Grows-refl, Grows-trans, Grows-push, progress_push, values_length, count_cons, taken_is}
 use Rattle.aig_build.specs.Built.{input_built, node_lit}
-use Rattle.aig_build.specs.Circuits.{Node, Grows, Progress, next, start, progress, value_among, lit_value, input_count}
+use Rattle.aig_build.specs.Circuits.{Node, Grows, Progress, next, start, progress, value_among, lit_value}
 use Rattle.aig_build.specs.declared.lits.Lit.{Lit}
 use Rattle.bit_words.proofs.ConvertValues.{AreThere-append}
 use Rattle.bit_words.proofs.RippleCarry.{AreThere-later, values-later}

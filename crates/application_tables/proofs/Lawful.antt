@@ -1,23 +1,21 @@
 -- The table of congruent applications is lawful.
-use Rattle.std.proofs.Common.{◌≡◌, ℕ, zero, suc, ◌<◌, ◌≤◌, ◌^◌, Bool, true, false, cond, List, [], ◌∷◌, length, Option, Some, None, refl, sym, ap, ◌∙◌, subst, inl, inr}
+use Rattle.std.proofs.Common.{◌≡◌, ℕ, ◌<◌, ◌≤◌, ◌^◌, Bool, true, false, cond, List, [], ◌∷◌, Option, Some, None, refl, sym, ◌∙◌, subst, inl, inr}
 use Rattle.std.specs.Prelude.{map}
 use Rattle.std.specs.List.{AllByRecursion}
 use Rattle.aig_build.specs.declared.lits.Lit.{Lit}
 use Rattle.bit_ops.specs.declared.values.SymValue.{SymValue}
 use Rattle.bit_ops.specs.declared.values.SymValue.TheVariants.{Word, Pointer}
 use Rattle.bit_words.proofs.Arithmetic.{below_power}
-use Rattle.bit_words.specs.Words.{LitWord, number_of_bits}
+use Rattle.bit_words.specs.Words.{LitWord}
 use Rattle.core_ir.specs.Calls.{Among}
-use Rattle.core_ir.specs.Cells.{store_shapes, pick}
 use Rattle.core_ir.specs.Inputs.{IsNumber, HasShape, HaveShapes, IsFree}
 use Rattle.core_ir.specs.Joint.{Node, table}
-use Rattle.core_ir.specs.Tables.{Effects, EntryName, key_cells, node_named, results_named, Answer, Traps, Gives, Entry, LawfulAnswer, IsLawful, IsLawfulEntry}
+use Rattle.core_ir.specs.Tables.{Effects, EntryName, node_named, results_named, Answer, Traps, Gives, Entry, LawfulAnswer, IsLawful}
 use Rattle.core_ir.specs.declared.cores.JointCore.{JointCore}
 use Rattle.core_ir.specs.declared.units.Shape.{Shape}
 use Rattle.core_ir.specs.declared.units.Shape.TheVariants as shape
 use Rattle.rvt_num.proofs.Readings.{reading_in_range}
 use Rattle.rvt_num.specs.Kinds.{width, IsOf}
-use Rattle.rvt_num.specs.Number.{Number}
 use Rattle.rvt_num.specs.Wrapping.{reading}
 use Rattle.rvt_num.specs.declared.kinds.Kind.{Kind}
 use Rattle.rvt_num.specs.declared.values.Trap.{Trap}
@@ -26,8 +24,8 @@ use Rattle.rvt_num.specs.declared.values.Value.TheVariants.{Num, Null, At}
 use Rattle.sym_values.proofs.SameBits.{long_map}
 use Rattle.sym_values.specs.Valuations.{Valuation}
 use Rattle.sym_values.specs.Values.{pattern_under, value_under, both_stand, values_under, IsWordOf, AreLaid}
-use Rattle.uf_abstraction.specs.Applications.{LitAnswer, LitShape, Target, Application, first_trap, returned, unless_trap, answer_under, key_of, entry_if, entries_under}
-use Rattle.uf_abstraction.specs.Congruence.{IsIn, IsOnTarget, ArePointersOn, IsAnswer, AreCongruent, IsLaidOut}
+use Rattle.uf_abstraction.specs.Applications.{LitShape, Target, Application, first_trap, returned, unless_trap, answer_under, entry_if, entries_under}
+use Rattle.uf_abstraction.specs.Congruence.{IsOnTarget, ArePointersOn, IsAnswer, IsLaidOut}
 use Rattle.application_tables.specs.Lawful.{IsTargetOf, IsShapeOf, AreShaped, LawfulLaw}
 
 pub both_parts : (o : Option Value) (r : Option (List Value)) (zs : List Value) → both_stand o r ≡ Some zs → (z : Value) × (rest : List Value) × (o ≡ Some z) × (r ≡ Some rest) × (z ∷ rest ≡ zs)
@@ -61,13 +59,16 @@ module _ (v : Valuation) where
     on_target type u (Some Null) z h e = subst (Has (shape.Pointer type u)) (let same : Null ≡ z = cc in same) tt
     on_target type u (Some (At o c)) z h e =
         let t = are (o, h.cells, h.constant) h.is_there in
-        let at : Has (shape.Pointer type u) (At o c) = (record {
-          object = t.object;
-          is_there = t.is_there;
-          addressable = t.addressable;
-          in_length = subst (λ n. c ≤ n) (sym t.long) h.in_length;
-          mutable = λ m. t.same_constant ∙ h.mutable m;
-        }, t.free) in
+        let at : Has (shape.Pointer type u) (At o c) = (
+          record {
+            object = t.object;
+            is_there = t.is_there;
+            addressable = t.addressable;
+            in_length = subst (λ n. c ≤ n) (sym t.long) h.in_length;
+            mutable = λ m. t.same_constant ∙ h.mutable m;
+          },
+          t.free,
+        ) in
         subst (Has (shape.Pointer type u)) (let same : At o c ≡ z = cc in same) at
 
     one_has : (s : Shape) (w : LitWord) (k : Kind) (z : Value) → IsWordOf k w → value_under v (Word w) ≡ Some z → Has (shape.Word k) z

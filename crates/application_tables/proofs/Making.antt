@@ -1,5 +1,5 @@
 -- How applications are made.
-use Rattle.std.proofs.Common.{◌≡◌, List, [], ◌∷◌, ◌++◌, Option, Some, None, refl}
+use Rattle.std.proofs.Common.{List, [], ◌∷◌, ◌++◌, Option, Some, None, refl}
 use Rattle.aig_build.proofs.Nodes.{Grows-refl, Grows-trans}
 use Rattle.aig_build.specs.Circuits.{Node, Grows}
 use Rattle.bit_ops.specs.declared.values.SymValue.{SymValue}
@@ -8,7 +8,7 @@ use Rattle.core_ir.specs.Tables.{EntryName}
 use Rattle.sym_values.specs.Values.{all_lits}
 use Rattle.uf_abstraction.specs.Applications.{LitAnswer, LitShape, Application}
 use Rattle.uf_abstraction.specs.Applying.{applied_by, apply_built, earlier, fresh_answer}
-use Rattle.application_tables.specs.Making.{IsMadeAt, AreMade, NoneMadeLaw, LaterMadeLaw, OneMoreMadeLaw}
+use Rattle.application_tables.specs.Making.{AreMade, NoneMadeLaw, LaterMadeLaw, OneMoreMadeLaw}
 
 pub none_made : NoneMadeLaw
 none_made start = Grows-refl start

@@ -1,17 +1,17 @@
 -- Each lawful table is realized by an assignment.
-use Rattle.std.proofs.Common.{◌≡◌, ℕ, zero, suc, ◌+◌, ◌-◌, ◌<◌, ◌≤◌, ◌^◌, Bool, true, false, cond, List, [], ◌∷◌, ◌++◌, length, take, drop, replicate, Option, Some, None, refl, sym, ap, ◌∙◌, subst, arith, append_assoc, length-append, ◌⊎◌, inl, inr}
-use Rattle.std.specs.Prelude.{map, count_by, is_none, slice_get}
+use Rattle.std.proofs.Common.{◌≡◌, ℕ, zero, suc, ◌+◌, ◌-◌, ◌<◌, ◌≤◌, ◌^◌, Bool, true, false, cond, List, [], ◌∷◌, ◌++◌, length, take, drop, replicate, Option, Some, None, refl, sym, ap, ◌∙◌, subst, arith, append_assoc, length-append, inl, inr}
+use Rattle.std.specs.Prelude.{map, is_none}
 use Rattle.std.specs.List.{AllByRecursion}
 use Rattle.std.proofs.Math.Seq.{take-append_seam, drop-append_seam}
 use Rattle.std.proofs.lemmas.List.Sums.{sum_by-append}
 use Rattle.aig_build.proofs.Gates.{some_taken}
 use Rattle.aig_build.proofs.Nodes.{Grows-keeps, Grows-trans}
-use Rattle.aig_build.specs.Circuits.{Node, Grows, IsCircuit, input_count, lit_value}
+use Rattle.aig_build.specs.Circuits.{Node, Grows, lit_value}
 use Rattle.aig_build.specs.declared.lits.Lit.{Lit}
 use Rattle.bit_ops.specs.declared.values.SymValue.{SymValue}
 use Rattle.bit_ops.specs.declared.values.SymValue.TheVariants.{Word, Pointer}
 use Rattle.bit_words.proofs.RippleCarry.{values-later}
-use Rattle.bit_words.specs.Words.{AreThere, LitWord, number_of_bits}
+use Rattle.bit_words.specs.Words.{AreThere, number_of_bits}
 use Rattle.core_ir.proofs.Keys.{key_same}
 use Rattle.core_ir.proofs.Pairs.{named, at_side, is_member}
 use Rattle.core_ir.proofs.Shapes.{zero_kept}
@@ -19,7 +19,6 @@ use Rattle.core_ir.specs.Calls.{Among}
 use Rattle.core_ir.specs.Cells.{zero_of, store_shapes, pick}
 use Rattle.core_ir.specs.Inputs.{HaveShapes, IsFree, results_of}
 use Rattle.core_ir.specs.Joint.{Side, Old, New, Node as JointNode, Pair, IsPair, node_by, node_of, pair_of, table}
-use Rattle.core_ir.specs.Meaning.{Request}
 use Rattle.core_ir.specs.Pairing.{ArePaired}
 use Rattle.core_ir.specs.Tables.{Effects, EntryName, Shared, Own, Keyed, keyed, key_cells, name_by, name_of, old_member, node_named, results_named, Answer, Traps, Gives, Entry, same_key, lookup, or_zero, end_at, from_table, LawfulAnswer, IsLawful}
 use Rattle.core_ir.specs.declared.cores.JointCore.{JointCore}
@@ -33,16 +32,16 @@ use Rattle.sym_values.proofs.SameBits.{append_same, bits, long_map, map_append}
 use Rattle.sym_values.specs.Valuations.{Valuation}
 use Rattle.sym_values.specs.Values.{value_under, pointer_of, both_stand, values_under, lits_of, all_lits, AreLaid}
 use Rattle.uf_abstraction.proofs.FirstEntries.{all_among}
-use Rattle.uf_abstraction.specs.Applications.{LitAnswer, LitShape, Target, Application, trap_lits, answer_lits, first_trap, returned, unless_trap, answer_under, argument_count, key_of, flat_key, AnswersAs, AnswerAll}
+use Rattle.uf_abstraction.specs.Applications.{LitShape, Target, Application, trap_lits, answer_lits, returned, unless_trap, answer_under, argument_count, key_of, flat_key, AnswersAs, AnswerAll}
 use Rattle.uf_abstraction.specs.Applying.{fresh_answer}
-use Rattle.uf_abstraction.specs.Congruence.{key_bits, answer_bits, AreAlike, AllAlike, ArePointersOn, IsAnswer, AreCongruent, IsLaidOut}
+use Rattle.uf_abstraction.specs.Congruence.{AreAlike, AllAlike, IsAnswer, AreCongruent, IsLaidOut}
 use Rattle.uf_abstraction.specs.Testing.{IsSmall}
 use Rattle.application_tables.proofs.Encodings.{trap_bits, values_bits, kinds, traps_long, values_long, none_first, one_first, all_stand}
 use Rattle.application_tables.proofs.FreshBits.{taking, lit_same, answer_reads}
 use Rattle.application_tables.proofs.Making.{made_grows}
 use Rattle.application_tables.specs.Lawful.{IsTargetOf, IsShapeOf, AreShaped}
 use Rattle.application_tables.specs.Making.{IsMadeAt, AreMade}
-use Rattle.application_tables.specs.Realizing.{IsRealized, IsShared, RealizationLaw}
+use Rattle.application_tables.specs.Realizing.{IsShared, RealizationLaw}
 
 -- ---- the answers that a table gives to names and keys
 
@@ -136,7 +135,7 @@ module _ (joint : JointCore) (effects : Effects) (given : EntryName → LitShape
     cut_parts ts rs cs l h k e =
         let one = append_same (map v (trap_lits a.answer.trap)) ts _ _ (long_map v (trap_lits a.answer.trap) ∙ sym l) (sym (map_append v (trap_lits a.answer.trap) (all_lits a.answer.results ++ all_lits a.answer.cells)) ∙ e) in
         let two = append_same (map v (all_lits a.answer.results)) (values_bits a.shape.results rs) _ _
-            (long_map v (all_lits a.answer.results) ∙ sym (values_long (table joint) (IsFree joint Its) a.shape.results rs a.answer.results h laid.results)) (sym (map_append v (all_lits a.answer.results) (all_lits a.answer.cells)) ∙ one.1) in
+        (long_map v (all_lits a.answer.results) ∙ sym (values_long (table joint) (IsFree joint Its) a.shape.results rs a.answer.results h laid.results)) (sym (map_append v (all_lits a.answer.results) (all_lits a.answer.cells)) ∙ one.1) in
         (one.0, two.0, two.1)
 
     pub answered : (e : Answer) → LawfulAnswer joint effects Its (results_named joint a.name) e → map v (answer_lits a.answer) ≡ answer_code a.shape e → IsAnswered e
@@ -391,10 +390,11 @@ module _ (joint : JointCore) (effects : Effects) (shared : ℕ → Bool) (given 
           let rest : drop (argument_count joint a.name) (k.args ++ k.cells) ≡ k.cells = ap (λ n. drop n (k.args ++ k.cells)) (sym count) ∙ drop-append_seam k.args k.cells in
           let same : k ≡ key_of joint a.name (flat_key k) = λ i. record { name = named i; args = sym first i; cells = sym rest i } in
           let results = results_by_name joint shared paired are side call.unit ∙ ap (results_named joint) named in
-          let node = node_by_name joint shared side call.unit ∙ ap (node_named joint) named in
-          (said joint effects entries a.name (Some (flat_key k)),
-          (answered_at a am).answer ∙ ap (λ o. Some (said joint effects entries a.name o)) has_key,
-          λ i. Some (end_at (key_cells joint effects (node_of joint side call.unit)) call.store (or_zero (results i) (pick (key_cells joint effects (node i)) (store_shapes (table joint))) (lookup (same i) entries))));
+          let node = node_by_name joint shared side call.unit ∙ ap (node_named joint) named in (
+            said joint effects entries a.name (Some (flat_key k)),
+            (answered_at a am).answer ∙ ap (λ o. Some (said joint effects entries a.name o)) has_key,
+            λ i. Some (end_at (key_cells joint effects (node_of joint side call.unit)) call.store (or_zero (results i) (pick (key_cells joint effects (node i)) (store_shapes (table joint))) (lookup (same i) entries))),
+          );
     }
 
     pub answers : (side : Side) → AnswerAll joint effects shared side v (from_table joint effects shared side entries) applied

@@ -1,5 +1,5 @@
 -- The shapes that a joint core gives to the answers under a name, with which congruent applications make a lawful table.
-use Rattle.std.specs.Prelude.{◌≡◌, ◌↔◌, ◌<◌, ◌^◌, ℕ, Bool, true, List, length, map, Some, slice_get}
+use Rattle.std.specs.Prelude.{◌≡◌, ◌↔◌, true, List, length, map, Some, slice_get}
 use Rattle.std.specs.List.{AllByRecursion}
 use Rattle.core_ir.specs.Calls.{Among}
 use Rattle.core_ir.specs.Cells.{store_shapes, pick}

@@ -6,7 +6,7 @@ use Rattle.bit_words.specs.Words.{AreThere}
 use Rattle.core_ir.specs.Tables.{EntryName}
 use Rattle.sym_values.specs.Values.{all_lits}
 use Rattle.uf_abstraction.specs.Applications.{LitShape, Application}
-use Rattle.uf_abstraction.specs.Applying.{Applied, apply_built, fresh_answer}
+use Rattle.uf_abstraction.specs.Applying.{apply_built, fresh_answer}
 
 -- from the first circuit came this one, in which the key stands, and the answer is fresh at it
 pub record IsMadeAt (start at : List Node) (a : Application) : Type 0 where
