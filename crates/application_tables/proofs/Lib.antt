@@ -3,3 +3,4 @@ pub mod Making
 pub mod FreshBits
 pub mod Encodings
 pub mod Realized
+pub mod Standing

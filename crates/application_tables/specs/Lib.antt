@@ -1,3 +1,4 @@
 pub mod Lawful
 pub mod Making
+pub mod Standing
 pub mod Realizing
