@@ -4,7 +4,6 @@ use Rattle.core_ir.specs.Calls.{Among}
 use Rattle.core_ir.specs.Tables.{Effects, EntryName}
 use Rattle.core_ir.specs.declared.cores.JointCore.{JointCore}
 use Rattle.core_ir.specs.declared.units.Shape.{Shape}
-use Rattle.std.specs.List.{AllByRecursion}
 use Rattle.uf_abstraction.proofs.FirstEntries.{table}
 use Rattle.uf_abstraction.proofs.Functions.{functions}
 use Rattle.uf_abstraction.proofs.TestsTell.{congruence_tells}
