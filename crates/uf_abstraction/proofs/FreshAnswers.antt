@@ -1,16 +1,14 @@
 -- Fresh answers are laid out by their shape, and their literals stand in the circuit.
-use Rattle.std.proofs.Common.{◌≡◌, ℕ, zero, suc, ◌+◌, ◌<◌, ◌≤◌, List, [], ◌∷◌, ◌++◌, length, Option, Some, None, refl, sym, ap, ◌∙◌, subst, arith, append_assoc}
+use Rattle.std.proofs.Common.{◌≡◌, ℕ, zero, suc, ◌+◌, ◌<◌, List, [], ◌∷◌, ◌++◌, length, Option, Some, None, refl, sym, ap, ◌∙◌, subst, arith, append_assoc}
 use Rattle.std.specs.Prelude.{map, fold}
 use Rattle.std.specs.List.{AllByRecursion}
 use Rattle.std.proofs.lemmas.List.{length_push, append-nil}
-use Rattle.aig_build.proofs.Nodes.{Grows-refl, Grows-trans, Grows-push, Grows-length}
+use Rattle.aig_build.proofs.Nodes.{Grows-refl, Grows-trans, Grows-push}
 use Rattle.aig_build.specs.Built.{input_built}
 use Rattle.aig_build.specs.Circuits.{Node, Grows}
 use Rattle.aig_build.specs.declared.lits.Lit.{Lit}
 use Rattle.bit_ops.specs.declared.values.SymValue.{SymValue}
-use Rattle.bit_ops.specs.declared.values.SymValue.TheVariants.{Word, Pointer}
 use Rattle.bit_words.proofs.ConvertValues.{AreThere-append}
-use Rattle.bit_words.proofs.LessValues.{AreThere-push}
 use Rattle.bit_words.proofs.RippleCarry.{AreThere-later}
 use Rattle.bit_words.specs.Words.{AreThere}
 use Rattle.core_ir.specs.Tables.{EntryName}
@@ -22,7 +20,7 @@ use Rattle.rvt_num.specs.declared.kinds.Kind.TheVariants.{U32}
 use Rattle.rvt_num.specs.declared.values.Trap.{Trap}
 use Rattle.sym_values.specs.Values.{lits_of, all_lits, IsWordOf, IsLaid, AreLaid}
 use Rattle.uf_abstraction.specs.Applications.{LitAnswer, LitShape, Application, trap_lits, answer_lits}
-use Rattle.uf_abstraction.specs.Applying.{MadeLits, fresh_lits, fresh_word, fresh_value, MadeValues, with_value, fresh_values, MadeTraps, with_trap, fresh_traps, fresh_answer, earlier, applied_by, apply_built, IsThere, AreKept, KeptLaw}
+use Rattle.uf_abstraction.specs.Applying.{fresh_lits, fresh_word, fresh_value, MadeValues, with_value, fresh_values, MadeTraps, with_trap, fresh_traps, fresh_answer, earlier, applied_by, apply_built, IsThere, AreKept, KeptLaw}
 use Rattle.uf_abstraction.specs.Congruence.{IsLaidOut}
 
 -- ---- layout

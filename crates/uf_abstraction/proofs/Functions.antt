@@ -1,5 +1,5 @@
 -- Congruent applications are functions.
-use Rattle.std.proofs.Common.{◌≡◌, ◌⊎◌, inl, inr, ℕ, suc, Bool, true, false, cond, List, [], ◌∷◌, ◌++◌, length, Option, Some, None, refl, sym, ap, ◌∙◌, subst, arith}
+use Rattle.std.proofs.Common.{◌≡◌, ◌⊎◌, inl, inr, suc, Bool, cond, List, [], ◌∷◌, ◌++◌, length, Option, Some, None, refl, sym, ap, ◌∙◌, subst}
 use Rattle.std.specs.Prelude.{map}
 use Rattle.std.specs.List.{AllByRecursion}
 use Rattle.aig_build.specs.declared.lits.Lit.{Lit}
@@ -15,8 +15,8 @@ use Rattle.rvt_num.specs.declared.values.Value.{Value}
 use Rattle.sym_values.proofs.SameBits.{map_append, append_same, both_long, bits}
 use Rattle.sym_values.specs.Valuations.{Valuation}
 use Rattle.sym_values.specs.Values.{value_under, both_stand, values_under, all_lits, AreLaid, BitsTell}
-use Rattle.uf_abstraction.specs.Applications.{LitAnswer, LitShape, Target, Application, trap_lits, answer_lits, first_trap, returned, unless_trap, answer_under}
-use Rattle.uf_abstraction.specs.Congruence.{key_bits, answer_bits, AreAlike, AllAlike, IsOnTarget, ArePointersOn, IsAnswer, AreCongruent, AreFunctions, IsLaidOut, FunctionsLaw}
+use Rattle.uf_abstraction.specs.Applications.{LitShape, Target, Application, trap_lits, first_trap, returned, unless_trap, answer_under}
+use Rattle.uf_abstraction.specs.Congruence.{answer_bits, AreAlike, AllAlike, IsOnTarget, ArePointersOn, IsAnswer, IsLaidOut, FunctionsLaw}
 
 all_at : {X : Type 0} (P : X → Type 0) (xs : List X) (x : X) → AllByRecursion P xs → Among x xs → P x
 all_at P [] x p h = absurd h

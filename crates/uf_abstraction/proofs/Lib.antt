@@ -1,6 +1,10 @@
 pub mod FirstEntries
 pub mod Lookups
 pub mod Functions
+pub mod Tests
+pub mod Loops
+pub mod Grouping
+pub mod TestsTell
 pub mod Questions
 pub mod FreshAnswers
 pub mod FreshSteps

@@ -1,5 +1,5 @@
 -- An application that is found is the one that is sought, and a fresh one is the last.
-use Rattle.std.proofs.Common.{◌≡◌, ℕ, zero, suc, Bool, true, false, ◌&&◌, cond, List, [], ◌∷◌, ◌++◌, Option, Some, None, refl, sym, ap, ◌∙◌, subst, true≢false, eqb-true}
+use Rattle.std.proofs.Common.{◌≡◌, ℕ, zero, suc, Bool, true, false, cond, List, [], ◌∷◌, Option, Some, None, refl, sym, ap, ◌∙◌, subst, true≢false, eqb-true}
 use Rattle.std.specs.Prelude.{◌==◌, map, fold}
 use Rattle.std.specs.Bool.{beq}
 use Rattle.std.specs.List.{AllByRecursion}
@@ -23,7 +23,7 @@ use Rattle.rvt_num.specs.declared.values.Trap.{Trap}
 use Rattle.sym_values.proofs.Conjunctions.{before_added}
 use Rattle.sym_values.proofs.SameBits.{bits}
 use Rattle.sym_values.specs.Valuations.{Valuation, IsValuation}
-use Rattle.sym_values.specs.Values.{values_under, all_lits, AreLaid}
+use Rattle.sym_values.specs.Values.{all_lits, AreLaid}
 use Rattle.uf_abstraction.specs.Applications.{LitAnswer, LitShape, Application, argument_count, AnswersAs, AnswerAll}
 use Rattle.uf_abstraction.specs.Applying.{same_lits, is_same, earlier, fresh_lits, fresh_word, fresh_value, MadeValues, with_value, fresh_values, MadeTraps, with_trap, fresh_traps, fresh_answer, applied_by, apply_built, IsApplied, ApplyLaw}
 use Rattle.uf_abstraction.specs.Congruence.{IsLaidOut}

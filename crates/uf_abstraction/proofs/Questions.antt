@@ -1,5 +1,5 @@
 -- The table of questions finds the first application with a name and a key, and grows at its end.
-use Rattle.std.proofs.Common.{◌≡◌, ℕ, Bool, true, false, ◌&&◌, cond, List, [], ◌∷◌, ◌++◌, Option, Some, None, refl, sym, ap, ◌∙◌, subst, true≢false}
+use Rattle.std.proofs.Common.{◌≡◌, Bool, true, false, ◌&&◌, cond, List, [], ◌∷◌, ◌++◌, Option, Some, None, refl, sym, ap, ◌∙◌}
 use Rattle.std.specs.Cmp.Lexicographic.{pointwise}
 use Rattle.std.specs.Prelude.{map, ◌==◌}
 use Rattle.std.specs.List.{AllByRecursion}
@@ -9,7 +9,6 @@ use Rattle.aig_build.specs.contracts.lits.LitPartialEq.TheImpl.{eq-value as lit_
 use Rattle.aig_build.specs.declared.lits.Lit.{Lit}
 use Rattle.core_ir.specs.Tables.{EntryName as Name, same_name}
 use Rattle.indexmap.specs.IndexMap.{insert_entry}
-use Rattle.sym_values.specs.Values.{all_lits}
 use Rattle.uf_abstraction.specs.Applications.{LitAnswer, Application}
 use Rattle.uf_abstraction.specs.Applying.{same_lits, is_same, earlier}
 use Rattle.uf_abstraction.specs.Names.{meant, application_of, IsAsked}

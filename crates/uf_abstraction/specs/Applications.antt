@@ -1,9 +1,8 @@
 -- Applications of unknown functions, the answers that they stand for, and the table that they make.
-use Rattle.std.specs.Prelude.{◌≡◌, ℕ, Bool, true, false, cond, List, [], ◌∷◌, ◌++◌, length, map, take, drop, Option, Some, None}
+use Rattle.std.specs.Prelude.{◌≡◌, ℕ, Bool, cond, List, [], ◌∷◌, ◌++◌, length, map, take, drop, Option, Some, None}
 use Rattle.std.specs.List.{AllByRecursion}
 use Rattle.aig_build.specs.declared.lits.Lit.{Lit}
 use Rattle.bit_ops.specs.declared.values.SymValue.{SymValue}
-use Rattle.core_ir.specs.Cells.{pick}
 use Rattle.core_ir.specs.Inputs.{inputs_of}
 use Rattle.core_ir.specs.Joint.{Side, Old, node_of}
 use Rattle.core_ir.specs.Meaning.{Request, Answers}

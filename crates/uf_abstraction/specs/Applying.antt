@@ -1,5 +1,5 @@
 -- What applying an unknown function builds: the answer of an earlier application with literally this key, or fresh inputs.
-use Rattle.std.specs.Prelude.{◌≡◌, ℕ, zero, suc, Bool, true, false, cond, ◌&&◌, List, [], ◌∷◌, ◌++◌, map, fold, Option, Some, None}
+use Rattle.std.specs.Prelude.{ℕ, zero, suc, Bool, true, false, cond, ◌&&◌, List, [], ◌∷◌, ◌++◌, map, fold, Option, Some, None}
 use Rattle.std.specs.List.{AllByRecursion}
 use Rattle.aig_build.specs.Built.{input_built, same_lit}
 use Rattle.aig_build.specs.Circuits.{Node}

@@ -1,23 +1,20 @@
 -- When unknown functions behave as functions.
-use Rattle.std.specs.Prelude.{◌≡◌, ◌⊎◌, ◌≤◌, ℕ, Bool, true, false, List, [], ◌∷◌, ◌++◌, length, map, Option, Some, None}
+use Rattle.std.specs.Prelude.{◌≡◌, ◌≤◌, ℕ, Bool, true, false, List, [], ◌∷◌, map, Option, Some}
 use Rattle.std.specs.List.{AllByRecursion}
 use Rattle.aig_build.specs.declared.lits.Lit.{Lit}
 use Rattle.bit_ops.specs.declared.values.SymValue.{SymValue}
 use Rattle.core_ir.specs.Calls.{Among}
-use Rattle.core_ir.specs.Inputs.{inputs_of}
 use Rattle.core_ir.specs.Joint.{Side}
-use Rattle.core_ir.specs.Meaning.{Request, Answers}
 use Rattle.core_ir.specs.declared.units.Shape.{Shape}
 use Rattle.core_ir.specs.declared.units.Shape.TheVariants as shape
-use Rattle.rvt_num.specs.declared.kinds.Kind.{Kind}
-use Rattle.core_ir.specs.Tables.{Answer, EntryName, Effects, keyed, name_of, from_table}
+use Rattle.core_ir.specs.Tables.{Answer, EntryName, Effects, from_table}
 use Rattle.core_ir.specs.declared.cores.JointCore.{JointCore}
 use Rattle.rvt_num.specs.declared.values.Trap.{Trap}
 use Rattle.rvt_num.specs.declared.values.Value.{Value}
 use Rattle.rvt_num.specs.declared.values.Value.TheVariants.{Null, At}
 use Rattle.sym_values.specs.Valuations.{Valuation}
 use Rattle.sym_values.specs.Values.{value_under, values_under, all_lits, AreLaid}
-use Rattle.uf_abstraction.specs.Applications.{LitAnswer, LitShape, Target, Application, trap_lits, answer_lits, argument_count, answer_under, flat_key, entries_under, AnswerAll}
+use Rattle.uf_abstraction.specs.Applications.{LitAnswer, LitShape, Target, Application, answer_lits, answer_under, entries_under, AnswerAll}
 
 -- the values of all literals of keys and of answers
 abbrev pub key_bits : Valuation → Application → List Bool

@@ -1,4 +1,6 @@
 pub mod Applications
 pub mod Congruence
+pub mod Testing
 pub mod Applying
 pub mod Names
+pub mod Groups

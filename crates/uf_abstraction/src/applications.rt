@@ -1,11 +1,14 @@
-ghost use Rattle.std.specs.Prelude.{◌≡◌, [], ◌∷◌, ◌++◌, map, None, IfOk, OnOk};
+ghost use Rattle.std.specs.Prelude.{◌≡◌, ◌<◌, [], ◌∷◌, ◌++◌, length, map, None, IfOk, OnOk};
 ghost use Rattle.std.specs.List.{AllByRecursion};
 ghost use Rattle.std.specs.Option.{option_copied};
 ghost use Rattle.sym_values.specs.Values.{all_lits};
-ghost use Rattle.uf_abstraction.specs.Applying.{applied_by, apply_built, earlier};
+ghost use Rattle.aig_build.specs.Circuits.{Grows};
+ghost use Rattle.uf_abstraction.specs.Applying.{applied_by, apply_built, earlier, IsThere};
 ghost use Rattle.uf_abstraction.specs.Names.{application_of, meant, IsAsked};
+ghost use Rattle.uf_abstraction.specs.Testing.{AreLaidOut, congruence_built};
 
 use crate::answers::{Answer, AnswerShape};
+use crate::congruence::test_congruence;
 use crate::copies::{copy_answer, copy_shape, copy_values, key_lits};
 use crate::fresh::make_answer;
 use crate::names::EntryName;
@@ -86,6 +89,20 @@ impl Applications {
                 Ok(answer)
             }
         }
+    }
+
+    /// A literal that is true exactly where the applications are congruent: equal keys under one name have equal answers, at most one
+    /// trap of each answer is true, and each pointer of an answer is null or on one of its targets.
+    pub fn congruence(&self, circuit: &mut Circuit) -> Result<Lit, Memory>
+        requires there { AllByRecursion (IsThere circuit.old) self.now }
+        requires laid_out { AreLaidOut self.now }
+        ensures built { IfOk result (λ lit. congruence_built circuit.old self.now ≡ record { nodes = circuit.new; lit = lit }) }
+        ensures there { IfOk result (λ lit. lit.node < length circuit.new) }
+        ensures grows { Grows circuit.old circuit.new }
+    {
+        let _count = circuit.nodes();
+        let lit = test_congruence(self.alloc, &self.made, circuit)?;
+        Ok(lit)
     }
 
     /// A new application.

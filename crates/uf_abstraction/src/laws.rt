@@ -2,6 +2,7 @@
 
 ghost use Rattle.uf_abstraction.specs.Applying.{ApplyLaw, KeptLaw};
 ghost use Rattle.uf_abstraction.specs.Congruence.{FunctionsLaw, TableLaw};
+ghost use Rattle.uf_abstraction.specs.Testing.{CongruenceLaw};
 
 /// What an application adds.
 pub fn applying()
@@ -21,4 +22,9 @@ pub fn congruence()
 /// Where the applications are functions, the table that they make answers each call as they do.
 pub fn table()
     ensures { TableLaw }
+{}
+
+/// The literal of the test is true exactly where the applications are congruent.
+pub fn congruence_test()
+    ensures { CongruenceLaw }
 {}

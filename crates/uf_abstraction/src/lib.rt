@@ -3,10 +3,12 @@
 
 mod answers;
 mod applications;
+mod congruence;
 mod copies;
 mod fresh;
 pub mod laws;
 mod names;
+mod pointers;
 
 pub use answers::{Answer, AnswerShape};
 pub use applications::Applications;

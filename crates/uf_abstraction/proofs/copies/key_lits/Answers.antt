@@ -1,4 +1,4 @@
-use Rattle.std.proofs.Common.{◌∙◌, ap, sym, ◌++◌}
+use Rattle.std.proofs.Common.{◌∙◌, ap, ◌++◌}
 use Rattle.sym_values.specs.Values.{lits_of}
 use Rattle.uf_abstraction.proofs.FreshSteps.{lits_step}
 use Rattle.uf_abstraction.proofs.copies.key_lits.Goals as goal

@@ -1,6 +1,6 @@
-use Rattle.std.proofs.Common.{◌≡◌, ◌∙◌, ap, sym}
+use Rattle.std.proofs.Common.{◌∙◌, ap, sym}
 use Rattle.uf_abstraction.proofs.Questions.{sought}
-use Rattle.uf_abstraction.specs.Applying.{Applied, applied_by, apply_built}
+use Rattle.uf_abstraction.specs.Applying.{applied_by, apply_built}
 use Rattle.uf_abstraction.specs.Names.{meant}
 use Rattle.uf_abstraction.proofs.applications.Applications.apply.Goals as goal
 

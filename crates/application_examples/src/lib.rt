@@ -1,0 +1,5 @@
+//! Examples of applications of unknown functions. There are tests alone.
+#![tactic(auto)]
+
+#[cfg(test)]
+mod tests;

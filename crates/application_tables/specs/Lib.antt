@@ -1,0 +1,4 @@
+pub mod Lawful
+pub mod Making
+pub mod Standing
+pub mod Realizing
