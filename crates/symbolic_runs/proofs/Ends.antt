@@ -1,16 +1,16 @@
 -- A unit's body, run from its entry, takes one exit.
-use Rattle.std.proofs.Common.{◌≡◌, ℕ, Bool, true, false, not, List, [], ◌∷◌, Option, Some, refl, sym, ap, ◌∙◌}
+use Rattle.std.proofs.Common.{◌≡◌, true, false, not, List, refl, ap, ◌∙◌}
 use Rattle.std.specs.Prelude.{map}
 use Rattle.aig_build.specs.Circuits.{constant}
 use Rattle.core_ir.proofs.Bodies.{stays}
-use Rattle.core_ir.specs.Meaning.{Request, Flow, Goes, Over, Waits, Run, does, entered, put_back, owned_cells, flow_end, option_end}
+use Rattle.core_ir.specs.Meaning.{Flow, Goes, Over, Waits, Run, does, entered, put_back, owned_cells, flow_end, option_end}
 use Rattle.core_ir.specs.Nodes.{goes_on}
 use Rattle.rvt_num.specs.declared.values.Value.{Value}
 use Rattle.symbolic_runs.proofs.Keeping.{lit_zero}
 use Rattle.symbolic_runs.proofs.Simulating.{runs}
 use Rattle.symbolic_runs.specs.Keeping.{layout_of, fits_of}
 use Rattle.symbolic_runs.specs.Runs.{SymRun, sym_does}
-use Rattle.symbolic_runs.specs.Simulation.{Seen, objects_of, at_unit, Holds, Stand, as_made, calls_under, FlowIs, Matches, IsExecuted, at_start, SimulationLaw, ExecutionLaw}
+use Rattle.symbolic_runs.specs.Simulation.{Seen, objects_of, at_unit, as_made, calls_under, FlowIs, IsExecuted, at_start, SimulationLaw, ExecutionLaw}
 
 pub simulation : SimulationLaw
 simulation seen answers keys parts right code p w s k x =

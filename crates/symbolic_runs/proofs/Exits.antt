@@ -1,12 +1,11 @@
 -- The exits and the calls that are taken, over lists of them.
-use Rattle.std.proofs.Common.{◌≡◌, Bool, true, false, not, ◌&&◌, cond, List, [], ◌∷◌, ◌++◌, Option, Some, None, refl, sym, ap, ◌∙◌, true≢false}
-use Rattle.std.specs.Prelude.{map}
+use Rattle.std.proofs.Common.{◌≡◌, Bool, true, false, not, ◌&&◌, cond, List, [], ◌∷◌, ◌++◌, Option, Some, None, refl, ap, ◌∙◌}
 use Rattle.aig_build.specs.Circuits.{opposite}
 use Rattle.aig_build.specs.declared.lits.Lit.{Lit}
-use Rattle.core_ir.specs.Meaning.{End, Trapped}
+use Rattle.core_ir.specs.Meaning.{Trapped}
 use Rattle.rvt_num.specs.declared.values.Trap.{Trap}
-use Rattle.symbolic_runs.specs.Simulation.{Seen, Holds, how_under, exits_under, NamedKey, calls_under}
-use Rattle.symbolic_runs.specs.Runs.{World, How, Traps, Exit, GuardedCall, MadeLit, and_in, or_in, Trapping, trapping}
+use Rattle.symbolic_runs.specs.Simulation.{Seen, Holds, how_under, exits_under, calls_under}
+use Rattle.symbolic_runs.specs.Runs.{World, Traps, Exit, GuardedCall, MadeLit, and_in, or_in, Trapping, trapping}
 use Rattle.sym_values.proofs.Conjunctions.{conjunction}
 use Rattle.sym_values.specs.Valuations.{Valuation}
 use Rattle.sym_values.specs.Values.{values_under}

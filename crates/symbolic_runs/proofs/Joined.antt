@@ -1,5 +1,5 @@
 -- The end that exits make together is that of the exit which is taken.
-use Rattle.std.proofs.Common.{◌≡◌, Bool, true, false, cond, List, [], ◌∷◌, Option, Some, None, refl, sym, ap, ◌∙◌}
+use Rattle.std.proofs.Common.{◌≡◌, Bool, true, false, cond, List, [], ◌∷◌, Option, Some, None, refl, ◌∙◌}
 use Rattle.std.specs.List.{AllByRecursion}
 use Rattle.aig_build.proofs.Nodes.{Grows-refl, Grows-trans}
 use Rattle.aig_build.specs.Circuits.{Node, IsCircuit, Grows}
@@ -15,7 +15,7 @@ use Rattle.sym_values.specs.Valuations.{Valuation, IsValuation}
 use Rattle.sym_values.specs.Values.{values_under, all_lits, AreLaid}
 use Rattle.symbolic_runs.proofs.Keeping.{lit_later, traps_later}
 use Rattle.symbolic_runs.proofs.Merged.{Stands, values_stand}
-use Rattle.symbolic_runs.specs.Ending.{LitEnd, trap_end, end_under, MadeEnd, with_stop, with_trap, with_exit, end_built, IsEndKept, IsEndOf, EndLaw}
+use Rattle.symbolic_runs.specs.Ending.{trap_end, end_under, MadeEnd, with_stop, with_trap, with_exit, end_built, IsEndKept, EndLaw}
 use Rattle.symbolic_runs.specs.Keeping.{Layout, IsLitThere, HowIsKept, IsExitKept}
 use Rattle.symbolic_runs.specs.Runs.{How, Traps, Stops, Exit}
 use Rattle.symbolic_runs.specs.Simulation.{end_if, exits_under}

@@ -1,12 +1,12 @@
 -- A symbolic run keeps the layouts of its values, and its literals stand in the circuit.
-use Rattle.std.proofs.Common.{◌≡◌, ℕ, zero, suc, ◌<◌, Bool, false, List, [], ◌∷◌, ◌++◌, length, Option, Some, None, refl, sym, ap, ◌∙◌, subst, arith}
+use Rattle.std.proofs.Common.{◌≡◌, ℕ, zero, suc, Bool, false, List, [], ◌∷◌, length, Option, Some, None, refl, sym, ◌∙◌, subst, arith}
 use Rattle.std.specs.Prelude.{map, slice_get}
 use Rattle.std.specs.List.{AllByRecursion}
 use Rattle.std.proofs.lemmas.Option.{none-some, same_Some, slice_get_within}
 use Rattle.aig_build.proofs.Gates.{and_built-makes}
 use Rattle.aig_build.proofs.Nodes.{Grows-length, Grows-refl, Grows-trans}
 use Rattle.aig_build.specs.Built.{and_built}
-use Rattle.aig_build.specs.Circuits.{Node, IsCircuit, Grows, Makes, both, constant, opposite}
+use Rattle.aig_build.specs.Circuits.{Node, IsCircuit, Grows, constant, opposite}
 use Rattle.aig_build.specs.declared.lits.Lit.{Lit}
 use Rattle.bit_ops.specs.declared.values.SymValue.{SymValue}
 use Rattle.bit_ops.specs.declared.values.SymValue.TheVariants.{Word, Pointer}
@@ -17,7 +17,7 @@ use Rattle.core_ir.proofs.Bodies.{all_mapped}
 use Rattle.core_ir.proofs.Folds.{Both, both_folds}
 use Rattle.core_ir.proofs.Runs.{all_append, all_front, all_back}
 use Rattle.core_ir.specs.Calls.{joined}
-use Rattle.core_ir.specs.Fits.{Widens, Gives, AllGive}
+use Rattle.core_ir.specs.Fits.{Widens, AllGive}
 use Rattle.core_ir.specs.Nodes.{CodeNode, node_nodes, nodes_in}
 use Rattle.core_ir.specs.declared.units.Code.{Code}
 use Rattle.core_ir.specs.declared.units.Code.TheFolds.{map-Code}
@@ -27,7 +27,7 @@ use Rattle.core_ir.specs.declared.units.Shape.TheVariants as shape
 use Rattle.rvt_num.specs.Kinds.{width}
 use Rattle.rvt_num.specs.declared.values.Trap.{Trap}
 use Rattle.sym_store.proofs.Stores.{stores_merging}
-use Rattle.sym_store.specs.Stores.{LitStore, IsStoreThere, IsStoreLaid, merged_store}
+use Rattle.sym_store.specs.Stores.{LitStore, IsStoreLaid, merged_store}
 use Rattle.sym_values.specs.Values.{lits_of, all_lits, IsLaid, AreLaid}
 use Rattle.symbolic_runs.proofs.Merged.{there_front, there_back, store_stands}
 use Rattle.symbolic_runs.specs.Keeping.{Layout, IsLitThere, IsWorldKept, IsStoreKept, IsStateKept, HowIsKept, IsExitKept, IsCallKept, IsRunKept, IsStepKept, IsCalledKept, IsTestKept, PartsKeep}

@@ -6,3 +6,4 @@ pub mod Kept
 pub mod Merged
 pub mod Simulating
 pub mod ThreeFolds
+pub mod Units

@@ -1,7 +1,7 @@
 -- What is merged stands in the circuit.
-use Rattle.std.proofs.Common.{◌≡◌, ◌<◌, Bool, true, false, List, [], ◌∷◌, ◌++◌, length, arith}
+use Rattle.std.proofs.Common.{◌<◌, Bool, true, false, List, [], ◌∷◌, ◌++◌, length, arith}
 use Rattle.aig_build.proofs.Nodes.{Grows-length, Grows-refl, Grows-trans}
-use Rattle.aig_build.specs.Built.{Made, same_lit}
+use Rattle.aig_build.specs.Built.{same_lit}
 use Rattle.aig_build.specs.Circuits.{Node, IsCircuit, Grows}
 use Rattle.aig_build.specs.declared.lits.Lit.{Lit}
 use Rattle.bit_ops.specs.declared.values.SymValue.{SymValue}

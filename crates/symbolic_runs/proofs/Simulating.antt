@@ -1,32 +1,29 @@
 -- A symbolic run of code stands for the run of the code under each assignment.
-use Rattle.std.proofs.Common.{◌≡◌, ℕ, Bool, true, false, not, ◌&&◌, cond, List, [], ◌∷◌, ◌++◌, Option, Some, None, refl, sym, ap, ◌∙◌, subst}
-use Rattle.std.specs.Prelude.{map, slice_get}
+use Rattle.std.proofs.Common.{◌≡◌, ℕ, Bool, true, false, not, ◌&&◌, cond, List, [], ◌∷◌, ◌++◌, Option, Some, refl, sym, ap, ◌∙◌, subst}
+use Rattle.std.specs.Prelude.{map}
 use Rattle.std.specs.List.{AllByRecursion}
 use Rattle.std.proofs.lemmas.List.{append-nil}
-use Rattle.aig_build.specs.Circuits.{constant, opposite}
-use Rattle.aig_build.specs.declared.lits.Lit.{Lit}
+use Rattle.aig_build.specs.Circuits.{opposite}
 use Rattle.bit_ops.specs.declared.values.SymValue.{SymValue}
 use Rattle.core_ir.proofs.Runs.{all_front, all_back}
 use Rattle.core_ir.specs.Calls.{joined}
 use Rattle.core_ir.specs.Fits.{AllGive}
-use Rattle.core_ir.specs.Meaning.{End, Trapped, Returned, Request, Flow, Goes, Over, Waits, Run, Step, followed, in_order, choice, is_true, node, does, request_of}
+use Rattle.core_ir.specs.Meaning.{End, Trapped, Returned, Request, Flow, Goes, Over, Waits, Step, followed, in_order, choice, is_true, node, does, request_of}
 use Rattle.core_ir.specs.Nodes.{CodeNode, node_nodes, nodes_in}
 use Rattle.core_ir.specs.Places.{State, register}
 use Rattle.core_ir.specs.declared.units.Code.{Code}
 use Rattle.core_ir.specs.declared.units.Code.TheFolds.{map-Code}
 use Rattle.core_ir.specs.declared.units.Code.TheOpen.{Code-F}
 use Rattle.core_ir.specs.declared.units.Shape.{Shape}
-use Rattle.rvt_num.specs.declared.values.Trap.{Trap}
-use Rattle.rvt_num.specs.declared.values.Value.{Value}
 use Rattle.sym_store.proofs.Stores.{register_is, stores_merging}
 use Rattle.sym_store.specs.Stores.{LitStore, IsMergedStore, MadeStore, merged_store}
-use Rattle.sym_values.specs.Values.{value_under, values_under, both_stand}
+use Rattle.sym_values.specs.Values.{values_under, both_stand}
 use Rattle.symbolic_runs.proofs.Exits.{exits_append, calls_append, exit_taken, exit_left, and_one, and_none, not_none, not_first, not_second, and_back, and_is, and_not_is, or_back, or_is, TrappingIs, trapping_is}
 use Rattle.symbolic_runs.proofs.Keeping.{register_laid, step_kept, called_kept, then_kept, stays_kept, end_kept, stop_kept, world_first, state_first, state_second, branches_kept}
 use Rattle.symbolic_runs.proofs.ThreeFolds.{Three, three_folds}
-use Rattle.symbolic_runs.specs.Keeping.{Layout, IsWorldKept, IsStoreKept, IsStateKept, IsRunKept, IsTestKept, PartsKeep}
-use Rattle.symbolic_runs.specs.Runs.{World, SymState, How, Traps, Stops, Exit, GuardedCall, SymRun, SymStep, Stepped, Called, MadeLit, Parts, and_in, or_in, trapping, stepped, called, then_on, stays, sym_in_order, with_live, joined_at, branches, ended, with_chosen, chosen, sym_node, sym_does}
-use Rattle.symbolic_runs.specs.Simulation.{Seen, objects_of, at_unit, Holds, Stand, end_if, how_under, exits_under, NamedKey, calls_under, as_made, FlowIs, Matches, IsDead, Simulates, StepFlow, StepIs, CallIs, TestIs, PartsHold}
+use Rattle.symbolic_runs.specs.Keeping.{Layout, IsWorldKept, IsStoreKept, IsStateKept, IsRunKept, PartsKeep}
+use Rattle.symbolic_runs.specs.Runs.{World, SymState, How, Traps, Stops, GuardedCall, SymRun, SymStep, Stepped, Called, MadeLit, Parts, and_in, or_in, trapping, stepped, called, then_on, sym_in_order, with_live, joined_at, ended, with_chosen, chosen, sym_node, sym_does}
+use Rattle.symbolic_runs.specs.Simulation.{Seen, at_unit, Holds, Stand, end_if, how_under, exits_under, NamedKey, calls_under, as_made, FlowIs, Matches, IsDead, Simulates, StepFlow, StepIs, CallIs, TestIs, PartsHold}
 
 map_append : {X Y : Type 0} (f : X → Y) (xs ys : List X) → map f (xs ++ ys) ≡ map f xs ++ map f ys
 map_append f [] ys = refl

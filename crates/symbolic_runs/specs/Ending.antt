@@ -1,5 +1,5 @@
 -- The end that exits make together: a literal for each trap, and the results and the cells of the exit that is taken.
-use Rattle.std.specs.Prelude.{◌≡◌, ℕ, Bool, List, [], ◌∷◌, map, Option, Some, None}
+use Rattle.std.specs.Prelude.{◌≡◌, Bool, false, List, [], ◌∷◌, map, Option, Some, None}
 use Rattle.std.specs.List.{AllByRecursion}
 use Rattle.aig_build.specs.Circuits.{Node, IsCircuit, Grows}
 use Rattle.aig_build.specs.declared.lits.Lit.{Lit}
@@ -104,3 +104,26 @@ executed parts owned unit w start before results =
       end = with_owned owned before e.end;
       calls = o.calls;
     }
+
+-- its end and its calls are those of the unit's run
+pub record IsSymEnd (seen : Seen) (args store : List Value) (m : Executed) : Type 0 where
+  pub end : end_under seen.v m.end ≡ unit_end (objects_of seen) seen.answers (Some seen.unit) args store
+  pub calls : calls_under seen.v m.calls ≡ map (as_made seen) (unit_run (objects_of seen) seen.answers (Some seen.unit) args store).calls
+
+pub record IsUnitRun (seen : Seen) (l : Layout) (w : World) (start : LitStore) (before : List SymValue) (m : Executed) : Type 0 where
+  pub grows : Grows w.nodes m.world.nodes
+  pub world : IsWorldKept l m.world
+  pub kept : IsEndKept l m.world.nodes m.end
+  pub calls : AllByRecursion (IsCallKept l m.world.nodes) m.calls
+  pub back : Holds seen m.world → Holds seen w
+  pub is : Holds seen m.world → (args store : List Value) → Stand seen start (entered (objects_of seen) seen.unit args store) → values_under seen.v before ≡ Some store → IsSymEnd seen args store m
+
+abbrev pub UnitLaw : Type 0
+UnitLaw = (seen : Seen) (answers : EntryName → LitShape) (keys : EntryName → List Shape) (parts : Parts)
+    → AreRight seen answers keys parts
+    → AllByRecursion (fits_of seen.joint seen.side seen.unit) (nodes_in seen.unit.body) → goes_on seen.unit.body ≡ false
+    → (w : World) (start : LitStore) (before results : List SymValue)
+    → IsWorldKept (layout_of seen.joint seen.unit answers keys) w → IsStoreKept (layout_of seen.joint seen.unit answers keys) w.nodes start
+    → AreLaid (store_shapes (table seen.joint)) before → AreThere w.nodes (all_lits before)
+    → AreLaid seen.unit.results results → AreThere w.nodes (all_lits results)
+    → IsUnitRun seen (layout_of seen.joint seen.unit answers keys) w start before (executed parts (owned_cells (objects_of seen) seen.unit) seen.unit w start before results)

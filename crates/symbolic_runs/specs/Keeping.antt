@@ -1,5 +1,5 @@
 -- What a symbolic run keeps, whatever the assignment: each value has the layout of its shape, and each literal stands in the circuit.
-use Rattle.std.specs.Prelude.{◌≡◌, ◌<◌, ℕ, List, length}
+use Rattle.std.specs.Prelude.{◌<◌, ℕ, List, length}
 use Rattle.std.specs.List.{AllByRecursion}
 use Rattle.aig_build.specs.Circuits.{Node, IsCircuit, Grows}
 use Rattle.aig_build.specs.declared.lits.Lit.{Lit}
@@ -16,7 +16,6 @@ use Rattle.core_ir.specs.declared.units.CoreOp.{CoreOp}
 use Rattle.core_ir.specs.declared.units.Shape.{Shape}
 use Rattle.core_ir.specs.declared.units.Spot.{Spot}
 use Rattle.core_ir.specs.declared.units.Unit.{Unit}
-use Rattle.rvt_num.specs.declared.values.Trap.{Trap}
 use Rattle.sym_store.specs.Stores.{LitStore, IsStoreThere, IsStoreLaid}
 use Rattle.sym_values.specs.Values.{all_lits, AreLaid}
 use Rattle.uf_abstraction.specs.Applications.{LitShape}

@@ -2,7 +2,6 @@
 use Rattle.std.specs.Prelude.{◌≡◌, ℕ, Bool, true, false, cond, List, [], ◌∷◌, map, Option, Some, None}
 use Rattle.std.specs.List.{AllByRecursion}
 use Rattle.aig_build.specs.Circuits.{constant}
-use Rattle.bit_ops.specs.declared.values.SymValue.{SymValue}
 use Rattle.core_ir.specs.Cells.{store_shapes}
 use Rattle.core_ir.specs.Inputs.{HaveShapes}
 use Rattle.core_ir.specs.Joint.{Side, core_of, table}

@@ -2,7 +2,7 @@
 
 ghost use Rattle.symbolic_runs.specs.Keeping.{KeepingLaw};
 ghost use Rattle.symbolic_runs.specs.Simulation.{ExecutionLaw, SimulationLaw};
-ghost use Rattle.symbolic_runs.specs.Ending.{EndLaw};
+ghost use Rattle.symbolic_runs.specs.Ending.{EndLaw, UnitLaw};
 
 /// Whatever the assignment, a symbolic run keeps the layouts of its values, and its literals stand in the circuit.
 pub fn keeping()
@@ -22,4 +22,9 @@ pub fn execution()
 /// The end that exits make together is that of the exit which is taken.
 pub fn ending()
     ensures { EndLaw }
+{}
+
+/// Under each assignment the symbolic run of a unit, from its entry to its return, has the end and the calls of the unit.
+pub fn unit()
+    ensures { UnitLaw }
 {}
