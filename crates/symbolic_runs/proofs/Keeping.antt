@@ -1,6 +1,6 @@
 -- A symbolic run keeps the layouts of its values, and its literals stand in the circuit.
 use Rattle.std.proofs.Common.{◌≡◌, ℕ, zero, suc, Bool, false, List, [], ◌∷◌, length, Option, Some, None, refl, sym, ◌∙◌, subst, arith}
-use Rattle.std.specs.Prelude.{map, slice_get}
+use Rattle.std.specs.Prelude.{slice_get}
 use Rattle.std.specs.List.{AllByRecursion}
 use Rattle.std.proofs.lemmas.Option.{none-some, same_Some, slice_get_within}
 use Rattle.aig_build.proofs.Gates.{and_built-makes}
@@ -14,14 +14,8 @@ use Rattle.bit_words.proofs.ConvertValues.{AreThere-append}
 use Rattle.bit_words.proofs.RippleCarry.{AreThere-later}
 use Rattle.bit_words.specs.Words.{AreThere}
 use Rattle.core_ir.proofs.Bodies.{all_mapped}
-use Rattle.core_ir.proofs.Folds.{Both, both_folds}
-use Rattle.core_ir.proofs.Runs.{all_append, all_front, all_back}
-use Rattle.core_ir.specs.Calls.{joined}
+use Rattle.core_ir.proofs.Runs.{all_append}
 use Rattle.core_ir.specs.Fits.{Widens, AllGive}
-use Rattle.core_ir.specs.Nodes.{CodeNode, node_nodes, nodes_in}
-use Rattle.core_ir.specs.declared.units.Code.{Code}
-use Rattle.core_ir.specs.declared.units.Code.TheFolds.{map-Code}
-use Rattle.core_ir.specs.declared.units.Code.TheOpen.{Code-F}
 use Rattle.core_ir.specs.declared.units.Shape.{Shape}
 use Rattle.core_ir.specs.declared.units.Shape.TheVariants as shape
 use Rattle.rvt_num.specs.Kinds.{width}
@@ -30,8 +24,8 @@ use Rattle.sym_store.proofs.Stores.{stores_merging}
 use Rattle.sym_store.specs.Stores.{LitStore, IsStoreLaid, merged_store}
 use Rattle.sym_values.specs.Values.{lits_of, all_lits, IsLaid, AreLaid}
 use Rattle.symbolic_runs.proofs.Merged.{there_front, there_back, store_stands}
-use Rattle.symbolic_runs.specs.Keeping.{Layout, IsLitThere, IsWorldKept, IsStoreKept, IsStateKept, HowIsKept, IsExitKept, IsCallKept, IsRunKept, IsStepKept, IsCalledKept, IsTestKept, PartsKeep}
-use Rattle.symbolic_runs.specs.Runs.{World, SymState, How, Traps, Stops, Exit, GuardedCall, SymRun, SymStep, Stepped, Called, MadeLit, Parts, and_in, or_in, Trapping, trapping, stepped, called, then_on, stays, sym_in_order, with_live, joined_at, branches, ended, with_chosen, chosen, sym_node, sym_does}
+use Rattle.symbolic_runs.specs.Keeping.{Layout, IsLitThere, IsWorldKept, IsStoreKept, IsStateKept, HowIsKept, IsExitKept, IsCallKept, IsRunKept, IsStepKept, IsCalledKept, IsTestKept}
+use Rattle.symbolic_runs.specs.Runs.{World, SymState, How, Traps, Stops, Exit, GuardedCall, SymRun, Stepped, Called, MadeLit, and_in, or_in, Trapping, trapping, stepped, called, after, stays, with_live, joined_at, yes_of, no_of, ended, with_chosen, chosen}
 use Rattle.uf_abstraction.specs.Applications.{Application, answer_lits}
 use Rattle.uf_abstraction.specs.Applying.{IsThere}
 
@@ -154,16 +148,14 @@ module _ (l : Layout) where
 
   -- ---- one stretch after another
 
-  pub then_kept : (w : World) (first : SymRun) (next : SymStep) → IsRunKept l w first → IsRunKept l first.world (next first.world first.state) → IsRunKept l w (then_on first next)
-  then_kept w first next one two =
-      let second = next first.world first.state in
-      record {
-        grows = Grows-trans w.nodes first.world.nodes second.world.nodes one.grows two.grows;
-        world = two.world;
-        state = two.state;
-        exits = all_append (IsExitKept l second.world.nodes) first.exits second.exits (exits_later l first.world.nodes second.world.nodes two.grows first.exits one.exits) two.exits;
-        calls = all_append (IsCallKept l second.world.nodes) first.calls second.calls (calls_later l first.world.nodes second.world.nodes two.grows first.calls one.calls) two.calls;
-      }
+  pub after_kept : (w : World) (first second : SymRun) → IsRunKept l w first → IsRunKept l first.world second → IsRunKept l w (after first second)
+  after_kept w first second one two = record {
+    grows = Grows-trans w.nodes first.world.nodes second.world.nodes one.grows two.grows;
+    world = two.world;
+    state = two.state;
+    exits = all_append (IsExitKept l second.world.nodes) first.exits second.exits (exits_later l first.world.nodes second.world.nodes two.grows first.exits one.exits) two.exits;
+    calls = all_append (IsCallKept l second.world.nodes) first.calls second.calls (calls_later l first.world.nodes second.world.nodes two.grows first.calls one.calls) two.calls;
+  }
 
   pub stays_kept : (w : World) (s : SymState) → IsWorldKept l w → IsStateKept l w.nodes s → IsRunKept l w (stays w s)
   stays_kept w s k x = record { grows = Grows-refl w.nodes; world = k; state = x; exits = tt; calls = tt }
@@ -232,80 +224,32 @@ module _ (l : Layout) where
       }
 
   -- the two branches from their beginnings
-  module _ (w : World) (c : MadeLit) (a b : SymStep) (s : SymState) (x : IsStateKept l w.nodes s) (k : IsTestKept l w c) where
+  module _ (w : World) (s : SymState) (c : MadeLit) (x : IsStateKept l w.nodes s) (k : IsTestKept l w c) where
     abbrev yes : MadeLit
-    yes = and_in c.world s.live c.lit
+    yes = yes_of c s
 
     abbrev no : MadeLit
-    no = and_in yes.world s.live (opposite c.lit)
-
-    abbrev first : SymRun
-    first = a no.world (with_live s yes.lit)
-
-    abbrev second : SymRun
-    second = b first.world (with_live s no.lit)
+    no = no_of c s
 
     live_there : IsLitThere c.world.nodes s.live
     live_there = lit_later w.nodes c.world.nodes s.live k.grows x.live
 
-    yes_kept : IsTestKept l c.world yes
+    pub yes_kept : IsTestKept l c.world yes
     yes_kept = and_kept c.world s.live c.lit k.world live_there k.lit
 
-    no_kept : IsTestKept l yes.world no
+    pub no_kept : IsTestKept l yes.world no
     no_kept = and_kept yes.world s.live (opposite c.lit) yes_kept.world (lit_later c.world.nodes yes.world.nodes s.live yes_kept.grows live_there) (lit_later c.world.nodes yes.world.nodes c.lit yes_kept.grows k.lit)
 
     to_no : Grows w.nodes no.world.nodes
     to_no = Grows-trans w.nodes yes.world.nodes no.world.nodes (Grows-trans w.nodes c.world.nodes yes.world.nodes k.grows yes_kept.grows) no_kept.grows
 
-    pub world_first : IsWorldKept l no.world
-    world_first = no_kept.world
-
     pub state_first : IsStateKept l no.world.nodes (with_live s yes.lit)
     state_first = record { live = lit_later yes.world.nodes no.world.nodes yes.lit no_kept.grows yes_kept.lit; store = store_later l w.nodes no.world.nodes to_no s.store x.store }
 
-    module _ (one : IsRunKept l no.world first) where
-      to_first : Grows w.nodes first.world.nodes
-      to_first = Grows-trans w.nodes no.world.nodes first.world.nodes to_no one.grows
+    pub state_second : IsStateKept l no.world.nodes (with_live s no.lit)
+    state_second = record { live = no_kept.lit; store = store_later l w.nodes no.world.nodes to_no s.store x.store }
 
-      pub state_second : IsStateKept l first.world.nodes (with_live s no.lit)
-      state_second = record { live = lit_later no.world.nodes first.world.nodes no.lit one.grows no_kept.lit; store = store_later l w.nodes first.world.nodes to_first s.store x.store }
-
-      pub branches_kept : IsRunKept l first.world second → IsRunKept l w (branches c a b s)
-      branches_kept two =
-          let from_start : IsRunKept l w first = record { grows = to_first; world = one.world; state = one.state; exits = one.exits; calls = one.calls } in
-          join_kept w first second from_start two
-
-  -- ---- all code
-
-  abbrev pub Keeps : (CodeNode → Type 0) → SymStep → List CodeNode → Type 0
-  Keeps fits f ns = AllByRecursion fits ns → (w : World) (s : SymState) → IsWorldKept l w → IsStateKept l w.nodes s → IsRunKept l w (f w s)
-
-  module _ (fits : CodeNode → Type 0) (stops : (rs : List ℕ) → fits (Code-F.Stop rs) → AllGive l.registers rs l.results) (parts : Parts) (keep : PartsKeep l fits parts) where
-    abbrev Kept : Type 0
-    Kept = Both SymStep (List CodeNode) (Keeps fits)
-
-    all_kept : (ys : List Kept) → Keeps fits (sym_in_order (map (λ y. y.left) ys)) (joined (map (λ y. y.right) ys))
-    all_kept [] p w s k x = stays_kept w s k x
-    all_kept (y ∷ ys) p w s k x =
-        let rest = joined (map (λ y. y.right) ys) in
-        let one = y.related (all_front fits y.right rest p) w s k x in
-        let two = all_kept ys (all_back fits y.right rest p) (y.left w s).world (y.left w s).state one.world one.state in
-        then_kept w (y.left w s) (sym_in_order (map (λ y. y.left) ys)) one two
-
-    node_kept : (y : Code-F Kept) → Keeps fits (sym_node parts (map-Code _ SymStep (λ y. y.left) y)) (node_nodes (map-Code _ (List CodeNode) (λ y. y.right) y))
-    node_kept (Code-F.Seq ys) p w s k x = all_kept ys p.1 w s k x
-    node_kept (Code-F.Set r op) p w s k x = step_kept w s (parts.set w s.store r op) [] x (keep.set w s.store r op k x.store p.0) tt
-    node_kept (Code-F.Load r spot) p w s k x = step_kept w s (parts.load w s.store r spot) [] x (keep.load w s.store r spot k x.store p.0) tt
-    node_kept (Code-F.Store spot r) p w s k x = step_kept w s (parts.save w s.store spot r) [] x (keep.save w s.store spot r k x.store p.0) tt
-    node_kept (Code-F.Call u ins outs) p w s k x = called_kept w s (parts.call w s.store u ins outs) x (keep.call w s.store u ins outs k x.store p.0)
-    node_kept (Code-F.If r y z) p w s k x =
-        let c = parts.truth w s.store r in
-        let t = keep.truth w s.store r k x.store p.0 in
-        let one = y.related (all_front fits y.right z.right p.1) _ _ (world_first w c y.left z.left s x t) (state_first w c y.left z.left s x t) in
-        let two = z.related (all_back fits y.right z.right p.1) _ _ one.world (state_second w c y.left z.left s x t one) in
-        branches_kept w c y.left z.left s x t one two
-    node_kept (Code-F.Stop rs) p w s k x = stop_kept w s rs k x (stops rs p.0)
-    node_kept (Code-F.Fail t) p w s k x = end_kept w s (Traps t) k x tt
-
-    pub keeps : (c : Code) → Keeps fits (sym_does parts c) (nodes_in c)
-    keeps = both_folds SymStep (List CodeNode) (sym_node parts) node_nodes (Keeps fits) node_kept
+    pub branches_kept : (first second : SymRun) → IsRunKept l no.world first → IsRunKept l first.world second → IsRunKept l w (joined_at first second)
+    branches_kept first second one two =
+        let from_start : IsRunKept l w first = record { grows = Grows-trans w.nodes no.world.nodes first.world.nodes to_no one.grows; world = one.world; state = one.state; exits = one.exits; calls = one.calls } in
+        join_kept w first second from_start two

@@ -1,9 +1,7 @@
-pub mod Ends
 pub mod Exits
 pub mod Joined
 pub mod Keeping
-pub mod Kept
 pub mod Merged
+pub mod Rules
 pub mod Simulating
-pub mod ThreeFolds
 pub mod Units

@@ -1,29 +1,21 @@
 -- A symbolic run of code stands for the run of the code under each assignment.
 use Rattle.std.proofs.Common.{◌≡◌, ℕ, Bool, true, false, not, ◌&&◌, cond, List, [], ◌∷◌, ◌++◌, Option, Some, refl, sym, ap, ◌∙◌, subst}
 use Rattle.std.specs.Prelude.{map}
-use Rattle.std.specs.List.{AllByRecursion}
 use Rattle.std.proofs.lemmas.List.{append-nil}
 use Rattle.aig_build.specs.Circuits.{opposite}
 use Rattle.bit_ops.specs.declared.values.SymValue.{SymValue}
-use Rattle.core_ir.proofs.Runs.{all_front, all_back}
-use Rattle.core_ir.specs.Calls.{joined}
 use Rattle.core_ir.specs.Fits.{AllGive}
-use Rattle.core_ir.specs.Meaning.{End, Trapped, Returned, Request, Flow, Goes, Over, Waits, Step, followed, in_order, choice, is_true, node, does, request_of}
-use Rattle.core_ir.specs.Nodes.{CodeNode, node_nodes, nodes_in}
+use Rattle.core_ir.specs.Meaning.{End, Request, Flow, Goes, Over, Waits, Step, followed, in_order, choice}
 use Rattle.core_ir.specs.Places.{State, register}
-use Rattle.core_ir.specs.declared.units.Code.{Code}
-use Rattle.core_ir.specs.declared.units.Code.TheFolds.{map-Code}
-use Rattle.core_ir.specs.declared.units.Code.TheOpen.{Code-F}
 use Rattle.core_ir.specs.declared.units.Shape.{Shape}
 use Rattle.sym_store.proofs.Stores.{register_is, stores_merging}
 use Rattle.sym_store.specs.Stores.{LitStore, IsMergedStore, MadeStore, merged_store}
 use Rattle.sym_values.specs.Values.{values_under, both_stand}
 use Rattle.symbolic_runs.proofs.Exits.{exits_append, calls_append, exit_taken, exit_left, and_one, and_none, not_none, not_first, not_second, and_back, and_is, and_not_is, or_back, or_is, TrappingIs, trapping_is}
-use Rattle.symbolic_runs.proofs.Keeping.{register_laid, step_kept, called_kept, then_kept, stays_kept, end_kept, stop_kept, world_first, state_first, state_second, branches_kept}
-use Rattle.symbolic_runs.proofs.ThreeFolds.{Three, three_folds}
-use Rattle.symbolic_runs.specs.Keeping.{Layout, IsWorldKept, IsStoreKept, IsStateKept, IsRunKept, PartsKeep}
-use Rattle.symbolic_runs.specs.Runs.{World, SymState, How, Traps, Stops, GuardedCall, SymRun, SymStep, Stepped, Called, MadeLit, Parts, and_in, or_in, trapping, stepped, called, then_on, sym_in_order, with_live, joined_at, ended, with_chosen, chosen, sym_node, sym_does}
-use Rattle.symbolic_runs.specs.Simulation.{Seen, at_unit, Holds, Stand, end_if, how_under, exits_under, NamedKey, calls_under, as_made, FlowIs, Matches, IsDead, Simulates, StepFlow, StepIs, CallIs, TestIs, PartsHold}
+use Rattle.symbolic_runs.proofs.Keeping.{register_laid}
+use Rattle.symbolic_runs.specs.Keeping.{Layout, IsStoreKept, IsRunKept}
+use Rattle.symbolic_runs.specs.Runs.{World, SymState, How, GuardedCall, SymRun, Stepped, Called, MadeLit, or_in, trapping, stepped, called, after, stays, with_live, joined_at, yes_of, no_of, ended, with_chosen, chosen}
+use Rattle.symbolic_runs.specs.Simulation.{Seen, Holds, Stand, how_under, exits_under, NamedKey, calls_under, as_made, FlowIs, Matches, IsDead, Simulates, StepFlow, StepIs, CallIs, TestIs}
 
 map_append : {X Y : Type 0} (f : X → Y) (xs ys : List X) → map f (xs ++ ys) ≡ map f xs ++ map f ys
 map_append f [] ys = refl
@@ -55,7 +47,7 @@ module _ (seen : Seen) where
         t : TrappingIs seen p.world s.live p.traps (trapping p.world s.live p.traps)
         t = trapping_is seen p.world s.live p.traps
 
-  quiet_sims : (w : World) (s : SymState) (p : Stepped) (f : State → Flow) → StepIs seen w s.store p f → Sims w s (stepped s.live p []) (λ c. record { calls = []; flow = f c })
+  pub quiet_sims : (w : World) (s : SymState) (p : Stepped) (f : State → Flow) → StepIs seen w s.store p f → Sims w s (stepped s.live p []) (λ c. record { calls = []; flow = f c })
   quiet_sims w s p f k = step_sims w s p f [] (λ c. []) k (λ e. refl) (λ c l st. refl)
 
   one_call : (b : Bool) (x : NamedKey) → b ≡ false → cond b (x ∷ []) [] ≡ []
@@ -64,44 +56,41 @@ module _ (seen : Seen) where
   made_call : (b : Bool) (x y : NamedKey) → b ≡ true → x ≡ y → cond b (x ∷ []) [] ≡ y ∷ []
   made_call b x y e f = λ i. cond (e i) (f i ∷ []) []
 
-  call_sims : (w : World) (s : SymState) (c : Called) (f : State → Flow) (q : State → Request) → CallIs seen w s.store c f q → Sims w s (called s.live c) (λ a. record { calls = q a ∷ []; flow = f a })
+  pub call_sims : (w : World) (s : SymState) (c : Called) (f : State → Flow) (q : State → Request) → CallIs seen w s.store c f q → Sims w s (called s.live c) (λ a. record { calls = q a ∷ []; flow = f a })
   call_sims w s c f q k =
       step_sims w s c.step f (record { guard = s.live; name = c.name; key = c.key } ∷ []) (λ a. q a ∷ []) k.step (λ e. one_call _ _ e) (λ a l st. made_call _ _ _ l (k.made a st))
 
   -- ---- one stretch after another
 
-  module _ (w : World) (s : SymState) (first : SymRun) (g : Step) (next : SymStep) (gs : Step) (one : Sims w s first g) (two : Sims first.world first.state (next first.world first.state) gs) where
-    abbrev second : SymRun
-    second = next first.world first.state
-
+  module _ (w : World) (s : SymState) (first second : SymRun) (g gs : Step) (one : Sims w s first g) (two : Sims first.world first.state second gs) where
     both_exits : (xs ys : List (Option End)) → exits_under seen.v first.exits ≡ xs → exits_under seen.v second.exits ≡ ys → exits_under seen.v (first.exits ++ second.exits) ≡ xs ++ ys
     both_exits xs ys e f = exits_append seen.v first.exits second.exits ∙ (λ i. e i ++ f i)
 
     both_calls : (xs ys : List NamedKey) → calls_under seen.v first.calls ≡ xs → calls_under seen.v second.calls ≡ ys → calls_under seen.v (first.calls ++ second.calls) ≡ xs ++ ys
     both_calls xs ys e f = calls_append seen.v first.calls second.calls ∙ (λ i. e i ++ f i)
 
-    then_flow : exits_under seen.v first.exits ≡ [] → (fl : Flow) → FlowIs seen second fl → FlowIs seen (then_on first next) fl
-    then_flow e (Goes c) k = (k.0, both_exits [] [] e k.1, k.2)
-    then_flow e (Over x) k = (k.0, both_exits [] (Some x ∷ []) e k.1)
-    then_flow e Waits k = k
+    after_flow : exits_under seen.v first.exits ≡ [] → (fl : Flow) → FlowIs seen second fl → FlowIs seen (after first second) fl
+    after_flow e (Goes c) k = (k.0, both_exits [] [] e k.1, k.2)
+    after_flow e (Over x) k = (k.0, both_exits [] (Some x ∷ []) e k.1)
+    after_flow e Waits k = k
 
-    then_matches : Holds seen second.world → (cs : List Request) (fl : Flow) → calls_under seen.v first.calls ≡ map (as_made seen) cs → FlowIs seen first fl → Matches seen (then_on first next) (followed cs fl gs)
-    then_matches h cs (Goes c) e k =
+    after_matches : Holds seen second.world → (cs : List Request) (fl : Flow) → calls_under seen.v first.calls ≡ map (as_made seen) cs → FlowIs seen first fl → Matches seen (after first second) (followed cs fl gs)
+    after_matches h cs (Goes c) e k =
         let m = two.alive h c k.0 k.2 in
         record {
           calls = both_calls (map (as_made seen) cs) (map (as_made seen) (gs c).calls) e m.calls ∙ sym (map_append (as_made seen) cs (gs c).calls);
-          flow = then_flow k.1 (gs c).flow m.flow;
+          flow = after_flow k.1 (gs c).flow m.flow;
         }
-    then_matches h cs (Over x) e k =
+    after_matches h cs (Over x) e k =
         let d = two.dead h k.0 in
         record {
           calls = both_calls (map (as_made seen) cs) [] e d.no_call ∙ append-nil (map (as_made seen) cs);
           flow = (d.not_live, both_exits (Some x ∷ []) [] k.1 d.no_exit);
         }
-    then_matches h cs Waits e k = absurd k
+    after_matches h cs Waits e k = absurd k
 
-    pub then_sims : Sims w s (then_on first next) (λ c. followed (g c).calls (g c).flow gs)
-    then_sims = record {
+    pub after_sims : Sims w s (after first second) (λ c. followed (g c).calls (g c).flow gs)
+    after_sims = record {
       back = λ h. one.back (two.back h);
       dead = λ h e.
           let a = one.dead (two.back h) e in
@@ -109,23 +98,17 @@ module _ (seen : Seen) where
           record { not_live = b.not_live; no_exit = both_exits [] [] a.no_exit b.no_exit; no_call = both_calls [] [] a.no_call b.no_call };
       alive = λ h c l st.
           let m = one.alive (two.back h) c l st in
-          then_matches h (g c).calls (g c).flow m.calls m.flow;
+          after_matches h (g c).calls (g c).flow m.calls m.flow;
     }
 
   -- ---- two branches
 
-  module _ (l : Layout) (w : World) (s : SymState) (test : MadeLit) (f : State → Bool) (a b : SymStep) (ga gb : Step) (told : TestIs seen w s.store test f) where
+  module _ (l : Layout) (w : World) (s : SymState) (test : MadeLit) (f : State → Bool) (left right : SymRun) (ga gb : Step) (told : TestIs seen w s.store test f) where
     abbrev yes : MadeLit
-    yes = and_in test.world s.live test.lit
+    yes = yes_of test s
 
     abbrev no : MadeLit
-    no = and_in yes.world s.live (opposite test.lit)
-
-    abbrev left : SymRun
-    left = a no.world (with_live s yes.lit)
-
-    abbrev right : SymRun
-    right = b left.world (with_live s no.lit)
+    no = no_of test s
 
     abbrev merged : MadeStore
     merged = merged_store right.world.nodes left.state.live left.state.store right.state.store
@@ -224,7 +207,7 @@ module _ (seen : Seen) where
 
   -- ---- ends
 
-  end_sims : (w : World) (s : SymState) (how : How) (g : State → End) → ((c : State) → Stand seen s.store c → how_under seen.v how ≡ Some (g c)) → Sims w s (ended w s how) (λ c. record { calls = []; flow = Over (g c) })
+  pub end_sims : (w : World) (s : SymState) (how : How) (g : State → End) → ((c : State) → Stand seen s.store c → how_under seen.v how ≡ Some (g c)) → Sims w s (ended w s how) (λ c. record { calls = []; flow = Over (g c) })
   end_sims w s how g k = record {
     back = λ h. h;
     dead = λ h e. record { not_live = h.valued.of_constant; no_exit = exit_left seen.v (record { guard = s.live; how = how }) [] e; no_call = refl };
@@ -235,7 +218,7 @@ module _ (seen : Seen) where
   }
 
   -- what registers hold, one by one
-  chosen_is : (l : Layout) (w : World) (s : LitStore) → IsStoreKept l w.nodes s → (c : State) → Stand seen s c → (rs : List ℕ) (wanted : List Shape) → AllGive l.registers rs wanted → values_under seen.v (chosen s.registers rs) ≡ Some (map (register c.registers) rs)
+  pub chosen_is : (l : Layout) (w : World) (s : LitStore) → IsStoreKept l w.nodes s → (c : State) → Stand seen s c → (rs : List ℕ) (wanted : List Shape) → AllGive l.registers rs wanted → values_under seen.v (chosen s.registers rs) ≡ Some (map (register c.registers) rs)
   chosen_is l w s k c st [] [] f = refl
   chosen_is l w s k c st [] (t ∷ ts) f = absurd f
   chosen_is l w s k c st (r ∷ rs) [] f = absurd f
@@ -245,75 +228,9 @@ module _ (seen : Seen) where
       let rest = chosen_is l w s k c st rs ts f.1 in
       subst (λ (o : Option SymValue). values_under seen.v (with_chosen o (chosen s.registers rs)) ≡ Some (map (register c.registers) (r ∷ rs))) (sym x.is_there) (λ i. both_stand (here i) (rest i))
 
-  -- ---- all code
-
-  module _ (l : Layout) (fits : CodeNode → Type 0) (stops : (rs : List ℕ) → fits (Code-F.Stop rs) → AllGive l.registers rs l.results) (parts : Parts) (keep : PartsKeep l fits parts) (hold : PartsHold seen l fits parts) where
-    -- a run that keeps what it should, and stands for the run of the code
-    pub record Right (w : World) (s : SymState) (o : SymRun) (g : Step) : Type 0 where
-      pub kept : IsRunKept l w o
-      pub sims : Sims w s o g
-
-    abbrev Runs : SymStep → Step → List CodeNode → Type 0
-    Runs f g ns = AllByRecursion fits ns → (w : World) (s : SymState) → IsWorldKept l w → IsStateKept l w.nodes s → Right w s (f w s) g
-
-    abbrev Parted : Type 0
-    Parted = Three SymStep Step (List CodeNode) Runs
-
-    parts_right : (ys : List Parted) → Runs (sym_in_order (map (λ y. y.first) ys)) (in_order (map (λ y. y.second) ys)) (joined (map (λ y. y.third) ys))
-    parts_right [] p w s k x = record {
-      kept = stays_kept l w s k x;
-      sims = record {
-        back = λ h. h;
-        dead = λ h e. record { not_live = e; no_exit = refl; no_call = refl };
-        alive = λ h c l st. record { calls = refl; flow = (l, refl, st) };
-      };
-    }
-    parts_right (y ∷ ys) p w s k x =
-        let rest = joined (map (λ y. y.third) ys) in
-        let one = y.related (all_front fits y.third rest p) w s k x in
-        let two = parts_right ys (all_back fits y.third rest p) (y.first w s).world (y.first w s).state one.kept.world one.kept.state in
-        let next = sym_in_order (map (λ y. y.first) ys) in
-        record {
-          kept = then_kept l w (y.first w s) next one.kept two.kept;
-          sims = then_sims w s (y.first w s) y.second next (in_order (map (λ y. y.second) ys)) one.sims two.sims;
-        }
-
-    node_right : (y : Code-F Parted) → Runs (sym_node parts (map-Code _ SymStep (λ y. y.first) y)) (node (at_unit seen) seen.answers (map-Code _ Step (λ y. y.second) y)) (node_nodes (map-Code _ (List CodeNode) (λ y. y.third) y))
-    node_right (Code-F.Seq ys) p w s k x = parts_right ys p.1 w s k x
-    node_right (Code-F.Set r op) p w s k x = record {
-      kept = step_kept l w s (parts.set w s.store r op) [] x (keep.set w s.store r op k x.store p.0) tt;
-      sims = quiet_sims w s (parts.set w s.store r op) _ (hold.set w s.store r op k x.store p.0);
-    }
-    node_right (Code-F.Load r spot) p w s k x = record {
-      kept = step_kept l w s (parts.load w s.store r spot) [] x (keep.load w s.store r spot k x.store p.0) tt;
-      sims = quiet_sims w s (parts.load w s.store r spot) _ (hold.load w s.store r spot k x.store p.0);
-    }
-    node_right (Code-F.Store spot r) p w s k x = record {
-      kept = step_kept l w s (parts.save w s.store spot r) [] x (keep.save w s.store spot r k x.store p.0) tt;
-      sims = quiet_sims w s (parts.save w s.store spot r) _ (hold.save w s.store spot r k x.store p.0);
-    }
-    node_right (Code-F.Call u ins outs) p w s k x = record {
-      kept = called_kept l w s (parts.call w s.store u ins outs) x (keep.call w s.store u ins outs k x.store p.0);
-      sims = call_sims w s (parts.call w s.store u ins outs) _ (λ c. request_of c u ins) (hold.call w s.store u ins outs k x.store p.0);
-    }
-    node_right (Code-F.If r y z) p w s k x =
-        let test = parts.truth w s.store r in
-        let t = keep.truth w s.store r k x.store p.0 in
-        let one = y.related (all_front fits y.third z.third p.1) _ _ (world_first l w test y.first z.first s x t) (state_first l w test y.first z.first s x t) in
-        let two = z.related (all_back fits y.third z.third p.1) _ _ one.kept.world (state_second l w test y.first z.first s x t one.kept) in
-        record {
-          kept = branches_kept l w test y.first z.first s x t one.kept two.kept;
-          sims = branch_sims l w s test (λ c. is_true (register c.registers r)) y.first z.first y.second z.second (hold.truth w s.store r k x.store p.0) one.sims two.sims one.kept two.kept;
-        }
-    node_right (Code-F.Stop rs) p w s k x = record {
-      kept = stop_kept l w s rs k x (stops rs p.0);
-      sims = end_sims w s (Stops (chosen s.store.registers rs) s.store.cells) (λ c. Returned (map (register c.registers) rs) c.store)
-          (λ c st. let these = chosen_is l w s.store x.store c st rs l.results (stops rs p.0) in λ i. end_if (these i) (st.stands.of_cells i));
-    }
-    node_right (Code-F.Fail t) p w s k x = record {
-      kept = end_kept l w s (Traps t) k x tt;
-      sims = end_sims w s (Traps t) (λ c. Trapped t) (λ c st. refl);
-    }
-
-    pub runs : (c : Code) → Runs (sym_does parts c) (does (at_unit seen) seen.answers c) (nodes_in c)
-    runs = three_folds SymStep Step (List CodeNode) (sym_node parts) (node (at_unit seen) seen.answers) node_nodes Runs node_right
+  pub stays_sims : (w : World) (s : SymState) → Sims w s (stays w s) (in_order [])
+  stays_sims w s = record {
+    back = λ h. h;
+    dead = λ h e. record { not_live = e; no_exit = refl; no_call = refl };
+    alive = λ h c l st. record { calls = refl; flow = (l, refl, st) };
+  }

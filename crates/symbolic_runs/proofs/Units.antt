@@ -1,28 +1,28 @@
 -- The symbolic run of a unit, from its entry to its return.
-use Rattle.std.proofs.Common.{◌≡◌, Bool, true, false, List, [], ◌∷◌, Option, Some, None, refl, sym, ap, ◌∙◌, subst}
+use Rattle.std.proofs.Common.{◌≡◌, Bool, true, false, not, List, [], ◌∷◌, map, Option, Some, None, refl, sym, ap, ◌∙◌, subst}
 use Rattle.std.proofs.lemmas.Option.{none-some, same_Some}
 use Rattle.aig_build.proofs.Nodes.{Grows-trans}
-use Rattle.aig_build.specs.Circuits.{Node}
+use Rattle.aig_build.specs.Circuits.{Node, constant}
 use Rattle.bit_ops.specs.declared.values.SymValue.{SymValue}
 use Rattle.bit_words.proofs.ConvertValues.{AreThere-append}
 use Rattle.bit_words.proofs.RippleCarry.{AreThere-later}
 use Rattle.bit_words.specs.Words.{AreThere}
+use Rattle.core_ir.proofs.Bodies.{stays}
 use Rattle.core_ir.specs.Cells.{blend}
-use Rattle.core_ir.specs.Meaning.{End, Trapped, put_back, owned_cells}
+use Rattle.core_ir.specs.Meaning.{End, Trapped, Answers, Flow, Goes, Over, Waits, Run, does, entered, put_back, owned_cells, unit_end, flow_end, option_end}
+use Rattle.core_ir.specs.Nodes.{goes_on}
 use Rattle.core_ir.specs.declared.units.Shape.{Shape}
 use Rattle.rvt_num.specs.declared.values.Trap.{Trap}
 use Rattle.rvt_num.specs.declared.values.Value.{Value}
+use Rattle.sym_store.specs.Stores.{LitStore}
 use Rattle.sym_values.specs.Valuations.{Valuation}
 use Rattle.sym_values.specs.Values.{value_under, both_stand, values_under, lits_of, all_lits, AreLaid}
-use Rattle.symbolic_runs.proofs.Ends.{simulation, execution}
 use Rattle.symbolic_runs.proofs.Joined.{ending}
-use Rattle.symbolic_runs.proofs.Keeping.{lit_zero, world_later, calls_later}
-use Rattle.symbolic_runs.proofs.Kept.{keeping}
+use Rattle.symbolic_runs.proofs.Keeping.{world_later, calls_later}
 use Rattle.symbolic_runs.proofs.Merged.{there_front, there_back}
-use Rattle.symbolic_runs.specs.Ending.{LitEnd, trap_end, end_under, end_built, with_owned, UnitLaw}
-use Rattle.symbolic_runs.specs.Keeping.{layout_of, IsStateKept}
-use Rattle.symbolic_runs.specs.Runs.{sym_does}
-use Rattle.symbolic_runs.specs.Simulation.{objects_of, Holds, end_if, at_start}
+use Rattle.symbolic_runs.specs.Ending.{LitEnd, trap_end, end_under, end_built, IsEndOf, with_owned, at_start, UnitRule}
+use Rattle.symbolic_runs.specs.Runs.{World, SymRun}
+use Rattle.symbolic_runs.specs.Simulation.{Seen, at_unit, Holds, Stand, end_if, exits_under, calls_under, as_made, FlowIs, Simulates, Subject, layout, sees, objects_in}
 use Rattle.uf_abstraction.specs.Applications.{first_trap}
 
 -- ---- cells that are put back
@@ -100,34 +100,63 @@ blend_there ns (s ∷ ss) (false ∷ bs) (x ∷ xs) (y ∷ ys) p q t u =
 
 -- ---- a unit
 
-pub unit : UnitLaw
-unit seen answers keys parts right fits ends w start before results k x p t q u =
-    let l = layout_of seen.joint seen.unit answers keys in
-    let mask = owned_cells (objects_of seen) seen.unit in
-    let o = sym_does parts seen.unit.body w (at_start start) in
-    let at : IsStateKept l w.nodes (at_start start) = record { live = lit_zero w.nodes true k.circuit; store = x } in
-    let run = keeping seen.joint seen.side seen.unit answers keys parts right.keep seen.unit.body fits w (at_start start) k at in
-    let sims = simulation seen answers keys parts right seen.unit.body fits w (at_start start) k at in
-    let e = end_built o.world.nodes o.exits results start.cells in
-    let joined = ending seen.v l o.world.nodes o.exits results start.cells run.world.circuit q x.laid.of_cells (AreThere-later w.nodes o.world.nodes _ run.grows u) (AreThere-later w.nodes o.world.nodes _ run.grows x.there.cells) run.exits in
-    let grows = Grows-trans w.nodes o.world.nodes e.nodes run.grows joined.grows in
-    let from : Holds seen (record { nodes = e.nodes; applied = o.world.applied }) → Holds seen o.world = λ h. record { valued = joined.back h.valued; answer = h.answer } in
+module _ (x : Subject) (answers : Answers) (v : Valuation) (args store : List Value) (o : SymRun) (ends : goes_on x.unit.body ≡ false) where
+  abbrev seen : Seen
+  seen = sees x answers v
+
+  abbrev the_run : Run
+  the_run = does (at_unit seen) answers x.unit.body (entered (objects_in x) x.unit args store)
+
+  -- a unit's body takes one exit, which is its end, and makes the calls of its run
+  record IsBodyRun : Type 0 where
+    end : End
+    one_exit : exits_under v o.exits ≡ Some end ∷ []
+    is_end : unit_end (objects_in x) answers (Some x.unit) args store ≡ Some (put_back (owned_cells (objects_in x) x.unit) store end)
+    calls : calls_under v o.calls ≡ map (as_made seen) the_run.calls
+
+  by_flow : (f : Flow) → the_run.flow ≡ f → calls_under v o.calls ≡ map (as_made seen) the_run.calls → FlowIs seen o f → IsBodyRun
+  by_flow (Goes c) e k h = absurd (stays (at_unit seen) answers x.unit.body ends (entered (objects_in x) x.unit args store) c e)
+  by_flow (Over e) f k h = record {
+    end = e;
+    one_exit = h.1;
+    is_end = ap (λ f. option_end (put_back (owned_cells (objects_in x) x.unit) store) (flow_end f)) f;
+    calls = k;
+  }
+  by_flow Waits e k h = absurd h
+
+  body_run : (w : World) (start : LitStore) → Simulates seen w (at_start start) o (does (at_unit seen) answers x.unit.body) → Holds seen o.world → Stand seen start (entered (objects_in x) x.unit args store) → IsBodyRun
+  body_run w start sims h st =
+      let valued = (sims.back h).valued in
+      let is_live : v (constant true) ≡ true = valued.of_opposite (constant false) ∙ ap not valued.of_constant in
+      let m = sims.alive h (entered (objects_in x) x.unit args store) is_live st in
+      by_flow the_run.flow refl m.calls m.flow
+
+pub unit : UnitRule
+unit x w start before results o ends k s p t q u run =
+    let l = layout x in
+    let mask = owned_cells (objects_in x) x.unit in
+    let here = o.world.nodes in
+    let e = end_built here o.exits results start.cells in
+    let joined : (v : Valuation) → IsEndOf v l here o.exits e = λ v. ending v l here o.exits results start.cells run.kept.world.circuit q s.laid.of_cells (AreThere-later w.nodes here _ run.kept.grows u) (AreThere-later w.nodes here _ run.kept.grows s.there.cells) run.kept.exits in
+    let some = joined (λ b. false) in
+    let grows = Grows-trans w.nodes here e.nodes run.kept.grows some.grows in
+    let from : (answers : Answers) (v : Valuation) → Holds (sees x answers v) (record { nodes = e.nodes; applied = o.world.applied }) → Holds (sees x answers v) o.world = λ answers v h. record { valued = (joined v).back h.valued; answer = h.answer } in
     record {
       grows = grows;
-      world = world_later l o.world e.nodes run.world joined.circuit joined.grows;
-      kept = record {
-        traps = joined.kept.traps;
-        results = joined.kept.results;
-        cells = blend_laid l.cells mask before e.end.cells p joined.kept.cells;
-        results_there = joined.kept.results_there;
-        cells_there = blend_there e.nodes l.cells mask before e.end.cells p joined.kept.cells (AreThere-later w.nodes e.nodes _ grows t) joined.kept.cells_there;
+      world = world_later l o.world e.nodes run.kept.world some.circuit some.grows;
+      end = record {
+        traps = some.kept.traps;
+        results = some.kept.results;
+        cells = blend_laid l.cells mask before e.end.cells p some.kept.cells;
+        results_there = some.kept.results_there;
+        cells_there = blend_there e.nodes l.cells mask before e.end.cells p some.kept.cells (AreThere-later w.nodes e.nodes _ grows t) some.kept.cells_there;
       };
-      calls = calls_later l o.world.nodes e.nodes joined.grows o.calls run.calls;
-      back = λ h. sims.back (from h);
-      is = λ h args store st f.
-          let d = execution seen answers keys parts right fits ends w start args store k x st (from h) in
+      calls = calls_later l here e.nodes some.grows o.calls run.kept.calls;
+      back = λ answers v h. (run.is answers v).back (from answers v h);
+      is = λ answers v args store h st f.
+          let d = body_run x answers v args store o ends w start (run.is answers v) (from answers v h) st in
           record {
-            end = owned_is seen.v l.cells mask before store e.end d.end p joined.kept.cells f (joined.is h.valued d.end d.one_exit) ∙ sym d.is_end;
+            end = owned_is v l.cells mask before store e.end d.end p some.kept.cells f ((joined v).is h.valued d.end d.one_exit) ∙ sym d.is_end;
             calls = d.calls;
           };
     }

@@ -1,27 +1,24 @@
 -- The end that exits make together: a literal for each trap, and the results and the cells of the exit that is taken.
-use Rattle.std.specs.Prelude.{◌≡◌, Bool, false, List, [], ◌∷◌, map, Option, Some, None}
+use Rattle.std.specs.Prelude.{◌≡◌, Bool, true, false, List, [], ◌∷◌, map, Option, Some, None}
 use Rattle.std.specs.List.{AllByRecursion}
-use Rattle.aig_build.specs.Circuits.{Node, IsCircuit, Grows}
+use Rattle.aig_build.specs.Circuits.{Node, IsCircuit, Grows, constant}
 use Rattle.aig_build.specs.declared.lits.Lit.{Lit}
 use Rattle.bit_ops.specs.declared.values.SymValue.{SymValue}
 use Rattle.bit_words.specs.Words.{AreThere}
 use Rattle.core_ir.specs.Cells.{store_shapes, blend}
 use Rattle.core_ir.specs.Joint.{table}
-use Rattle.core_ir.specs.Meaning.{End, Trapped, entered, unit_run, unit_end, owned_cells}
-use Rattle.core_ir.specs.Nodes.{nodes_in, goes_on}
-use Rattle.core_ir.specs.Tables.{EntryName}
-use Rattle.core_ir.specs.declared.units.Shape.{Shape}
-use Rattle.core_ir.specs.declared.units.Unit.{Unit}
+use Rattle.core_ir.specs.Meaning.{End, Trapped, Answers, does, setting_of, entered, unit_run, unit_end, owned_cells}
+use Rattle.core_ir.specs.Nodes.{goes_on}
 use Rattle.rvt_num.specs.declared.values.Trap.{Trap}
 use Rattle.rvt_num.specs.declared.values.Value.{Value}
 use Rattle.sym_store.specs.Merging.{merged_values}
 use Rattle.sym_store.specs.Stores.{LitStore}
 use Rattle.sym_values.specs.Valuations.{Valuation, IsValuation}
 use Rattle.sym_values.specs.Values.{values_under, all_lits, AreLaid}
-use Rattle.uf_abstraction.specs.Applications.{LitShape, first_trap}
-use Rattle.symbolic_runs.specs.Keeping.{Layout, layout_of, IsLitThere, IsWorldKept, IsStoreKept, IsExitKept, IsCallKept, fits_of}
-use Rattle.symbolic_runs.specs.Runs.{World, How, Traps, Stops, Exit, GuardedCall, Parts, sym_does}
-use Rattle.symbolic_runs.specs.Simulation.{Seen, objects_of, Holds, Stand, end_if, exits_under, calls_under, as_made, AreRight, at_start}
+use Rattle.uf_abstraction.specs.Applications.{first_trap}
+use Rattle.symbolic_runs.specs.Keeping.{Layout, IsLitThere, IsWorldKept, IsStoreKept, IsExitKept, IsCallKept}
+use Rattle.symbolic_runs.specs.Runs.{World, SymState, How, Traps, Stops, Exit, GuardedCall, SymRun}
+use Rattle.symbolic_runs.specs.Simulation.{Seen, objects_of, Holds, Stand, end_if, exits_under, calls_under, as_made, Subject, layout, sees, objects_in, IsRunOf}
 
 -- an end made of literals: it is the first trap whose literal is true, and where there is none it returns the results and the cells
 pub record LitEnd : Type 0 where
@@ -94,10 +91,9 @@ pub record Executed : Type 0 where
   pub end : LitEnd
   pub calls : List GuardedCall
 
--- the symbolic run of a unit from a store, with the mutable cells that there were before its entry, and results that stand where it doesn't end
-abbrev pub executed : Parts → List Bool → Unit → World → LitStore → List SymValue → List SymValue → Executed
-executed parts owned unit w start before results =
-    let o = sym_does parts unit.body w (at_start start) in
+-- from the run of a unit's body: the cells that it started with stand where it doesn't end, and so do these results
+abbrev pub executed : List Bool → SymRun → LitStore → List SymValue → List SymValue → Executed
+executed owned o start before results =
     let e = end_built o.world.nodes o.exits results start.cells in
     record {
       world = record { nodes = e.nodes; applied = o.world.applied };
@@ -105,25 +101,29 @@ executed parts owned unit w start before results =
       calls = o.calls;
     }
 
+-- the beginning of a run, which goes on whatever the assignment
+abbrev pub at_start : LitStore → SymState
+at_start s = record { live = constant true; store = s }
+
 -- its end and its calls are those of the unit's run
 pub record IsSymEnd (seen : Seen) (args store : List Value) (m : Executed) : Type 0 where
   pub end : end_under seen.v m.end ≡ unit_end (objects_of seen) seen.answers (Some seen.unit) args store
   pub calls : calls_under seen.v m.calls ≡ map (as_made seen) (unit_run (objects_of seen) seen.answers (Some seen.unit) args store).calls
 
-pub record IsUnitRun (seen : Seen) (l : Layout) (w : World) (start : LitStore) (before : List SymValue) (m : Executed) : Type 0 where
+pub record IsUnitRun (x : Subject) (w : World) (start : LitStore) (before : List SymValue) (m : Executed) : Type 0 where
   pub grows : Grows w.nodes m.world.nodes
-  pub world : IsWorldKept l m.world
-  pub kept : IsEndKept l m.world.nodes m.end
-  pub calls : AllByRecursion (IsCallKept l m.world.nodes) m.calls
-  pub back : Holds seen m.world → Holds seen w
-  pub is : Holds seen m.world → (args store : List Value) → Stand seen start (entered (objects_of seen) seen.unit args store) → values_under seen.v before ≡ Some store → IsSymEnd seen args store m
+  pub world : IsWorldKept (layout x) m.world
+  pub end : IsEndKept (layout x) m.world.nodes m.end
+  pub calls : AllByRecursion (IsCallKept (layout x) m.world.nodes) m.calls
+  pub back : (answers : Answers) (v : Valuation) → Holds (sees x answers v) m.world → Holds (sees x answers v) w
+  pub is : (answers : Answers) (v : Valuation) (args store : List Value) → Holds (sees x answers v) m.world → Stand (sees x answers v) start (entered (objects_in x) x.unit args store) → values_under v before ≡ Some store → IsSymEnd (sees x answers v) args store m
 
-abbrev pub UnitLaw : Type 0
-UnitLaw = (seen : Seen) (answers : EntryName → LitShape) (keys : EntryName → List Shape) (parts : Parts)
-    → AreRight seen answers keys parts
-    → AllByRecursion (fits_of seen.joint seen.side seen.unit) (nodes_in seen.unit.body) → goes_on seen.unit.body ≡ false
-    → (w : World) (start : LitStore) (before results : List SymValue)
-    → IsWorldKept (layout_of seen.joint seen.unit answers keys) w → IsStoreKept (layout_of seen.joint seen.unit answers keys) w.nodes start
-    → AreLaid (store_shapes (table seen.joint)) before → AreThere w.nodes (all_lits before)
-    → AreLaid seen.unit.results results → AreThere w.nodes (all_lits results)
-    → IsUnitRun seen (layout_of seen.joint seen.unit answers keys) w start before (executed parts (owned_cells (objects_of seen) seen.unit) seen.unit w start before results)
+-- a run of a unit's body from its entry, with the mutable cells that there were before it
+abbrev pub UnitRule : Type 0
+UnitRule = (x : Subject) (w : World) (start : LitStore) (before results : List SymValue) (o : SymRun)
+    → goes_on x.unit.body ≡ false
+    → IsWorldKept (layout x) w → IsStoreKept (layout x) w.nodes start
+    → AreLaid (store_shapes (table x.joint)) before → AreThere w.nodes (all_lits before)
+    → AreLaid x.unit.results results → AreThere w.nodes (all_lits results)
+    → IsRunOf x w (at_start start) (λ answers. does (setting_of (objects_in x) x.unit) answers x.unit.body) o
+    → IsUnitRun x w start before (executed (owned_cells (objects_in x) x.unit) o start before results)

@@ -1,27 +1,17 @@
 -- What a symbolic run keeps, whatever the assignment: each value has the layout of its shape, and each literal stands in the circuit.
-use Rattle.std.specs.Prelude.{◌<◌, ℕ, List, length}
+use Rattle.std.specs.Prelude.{◌<◌, List, length}
 use Rattle.std.specs.List.{AllByRecursion}
 use Rattle.aig_build.specs.Circuits.{Node, IsCircuit, Grows}
 use Rattle.aig_build.specs.declared.lits.Lit.{Lit}
 use Rattle.bit_words.specs.Words.{AreThere}
-use Rattle.core_ir.specs.Cells.{store_shapes}
-use Rattle.core_ir.specs.Fits.{NodeFits}
-use Rattle.core_ir.specs.Joint.{Side, table}
-use Rattle.core_ir.specs.Nodes.{CodeNode, nodes_in}
 use Rattle.core_ir.specs.Tables.{EntryName}
-use Rattle.core_ir.specs.declared.cores.JointCore.{JointCore}
-use Rattle.core_ir.specs.declared.units.Code.{Code}
-use Rattle.core_ir.specs.declared.units.Code.TheOpen.{Code-F}
-use Rattle.core_ir.specs.declared.units.CoreOp.{CoreOp}
 use Rattle.core_ir.specs.declared.units.Shape.{Shape}
-use Rattle.core_ir.specs.declared.units.Spot.{Spot}
-use Rattle.core_ir.specs.declared.units.Unit.{Unit}
 use Rattle.sym_store.specs.Stores.{LitStore, IsStoreThere, IsStoreLaid}
 use Rattle.sym_values.specs.Values.{all_lits, AreLaid}
 use Rattle.uf_abstraction.specs.Applications.{LitShape}
 use Rattle.uf_abstraction.specs.Applying.{IsThere}
 use Rattle.uf_abstraction.specs.Congruence.{IsLaidOut}
-use Rattle.symbolic_runs.specs.Runs.{World, SymState, How, Traps, Stops, Exit, GuardedCall, SymRun, Stepped, Called, MadeLit, Parts, sym_does}
+use Rattle.symbolic_runs.specs.Runs.{World, SymState, How, Traps, Stops, Exit, GuardedCall, SymRun, Stepped, Called, MadeLit}
 
 -- the shapes of a unit's registers and results, of the mutable cells, and of the answers and the keys of each name
 pub record Layout : Type 0 where
@@ -30,10 +20,6 @@ pub record Layout : Type 0 where
   pub cells : List Shape
   pub answers : EntryName → LitShape
   pub keys : EntryName → List Shape
-
-abbrev pub layout_of : JointCore → Unit → (EntryName → LitShape) → (EntryName → List Shape) → Layout
-layout_of joint unit answers keys =
-    record { registers = unit.registers; results = unit.results; cells = store_shapes (table joint); answers = answers; keys = keys }
 
 -- ---- one thing
 
@@ -75,7 +61,7 @@ pub record IsRunKept (l : Layout) (w : World) (o : SymRun) : Type 0 where
   pub exits : AllByRecursion (IsExitKept l o.world.nodes) o.exits
   pub calls : AllByRecursion (IsCallKept l o.world.nodes) o.calls
 
--- ---- what is asked of the parts
+-- ---- steps of a run
 
 pub record IsStepKept (l : Layout) (w : World) (p : Stepped) : Type 0 where
   pub grows : Grows w.nodes p.world.nodes
@@ -92,26 +78,3 @@ pub record IsTestKept (l : Layout) (w : World) (m : MadeLit) : Type 0 where
   pub grows : Grows w.nodes m.world.nodes
   pub world : IsWorldKept l m.world
   pub lit : IsLitThere m.world.nodes m.lit
-
-pub record PartsKeep (l : Layout) (fits : CodeNode → Type 0) (parts : Parts) : Type 0 where
-  pub set : (w : World) (s : LitStore) (r : ℕ) (op : CoreOp) → IsWorldKept l w → IsStoreKept l w.nodes s → fits (Code-F.Set r op) → IsStepKept l w (parts.set w s r op)
-  pub load : (w : World) (s : LitStore) (r : ℕ) (spot : Spot) → IsWorldKept l w → IsStoreKept l w.nodes s → fits (Code-F.Load r spot) → IsStepKept l w (parts.load w s r spot)
-  pub save : (w : World) (s : LitStore) (spot : Spot) (r : ℕ) → IsWorldKept l w → IsStoreKept l w.nodes s → fits (Code-F.Store spot r) → IsStepKept l w (parts.save w s spot r)
-  pub call : (w : World) (s : LitStore) (u : ℕ) (ins outs : List ℕ) → IsWorldKept l w → IsStoreKept l w.nodes s → fits (Code-F.Call u ins outs) → IsCalledKept l w (parts.call w s u ins outs)
-  pub truth : (w : World) (s : LitStore) (r : ℕ) → IsWorldKept l w → IsStoreKept l w.nodes s → fits (Code-F.If r tt tt) → IsTestKept l w (parts.truth w s r)
-
--- ---- the law
-
-abbrev pub anywhere : ℕ → Type 0
-anywhere o = Prim.Unit {0}
-
-abbrev pub fits_of : JointCore → Side → Unit → CodeNode → Type 0
-fits_of joint side unit = NodeFits joint side anywhere unit
-
--- a run of fitting code keeps all that its parts keep
-abbrev pub KeepingLaw : Type 0
-KeepingLaw = (joint : JointCore) (side : Side) (unit : Unit) (answers : EntryName → LitShape) (keys : EntryName → List Shape) (parts : Parts)
-    → PartsKeep (layout_of joint unit answers keys) (fits_of joint side unit) parts
-    → (code : Code) → AllByRecursion (fits_of joint side unit) (nodes_in code)
-    → (w : World) (s : SymState) → IsWorldKept (layout_of joint unit answers keys) w → IsStateKept (layout_of joint unit answers keys) w.nodes s
-    → IsRunKept (layout_of joint unit answers keys) w (sym_does parts code w s)

@@ -6,11 +6,6 @@ use Rattle.aig_build.specs.Circuits.{Node, constant, opposite}
 use Rattle.aig_build.specs.declared.lits.Lit.{Lit}
 use Rattle.bit_ops.specs.declared.values.SymValue.{SymValue}
 use Rattle.core_ir.specs.Tables.{EntryName}
-use Rattle.core_ir.specs.declared.units.Code.{Code}
-use Rattle.core_ir.specs.declared.units.Code.TheFolds.{fold-Code}
-use Rattle.core_ir.specs.declared.units.Code.TheOpen.{Code-F}
-use Rattle.core_ir.specs.declared.units.CoreOp.{CoreOp}
-use Rattle.core_ir.specs.declared.units.Spot.{Spot}
 use Rattle.rvt_num.specs.declared.values.Trap.{Trap}
 use Rattle.sym_store.specs.Stores.{LitStore, merged_store}
 use Rattle.uf_abstraction.specs.Applications.{Application}
@@ -47,9 +42,6 @@ pub record SymRun : Type 0 where
   pub exits : List Exit
   pub calls : List GuardedCall
 
-abbrev pub SymStep : Type 0
-SymStep = World → SymState → SymRun
-
 -- ---- what operations, places and applications give
 
 -- the store behind a step, and the traps of the step in order
@@ -66,14 +58,6 @@ pub record Called : Type 0 where
 pub record MadeLit : Type 0 where
   pub world : World
   pub lit : Lit
-
-pub record Parts : Type 0 where
-  pub set : World → LitStore → ℕ → CoreOp → Stepped
-  pub load : World → LitStore → ℕ → Spot → Stepped
-  pub save : World → LitStore → Spot → ℕ → Stepped
-  pub call : World → LitStore → ℕ → List ℕ → List ℕ → Called
-  -- whether a register is not 0
-  pub truth : World → LitStore → ℕ → MadeLit
 
 -- ---- the run
 
@@ -114,18 +98,14 @@ stepped live p calls =
 abbrev pub called : Lit → Called → SymRun
 called live c = stepped live c.step (record { guard = live; name = c.name; key = c.key } ∷ [])
 
-abbrev pub then_on : SymRun → SymStep → SymRun
-then_on first next =
-    let second = next first.world first.state in
+-- one stretch, and the next one from where it leads
+abbrev pub after : SymRun → SymRun → SymRun
+after first second =
     record { world = second.world; state = second.state; exits = first.exits ++ second.exits; calls = first.calls ++ second.calls }
 
 -- nothing is done
-abbrev pub stays : SymStep
+abbrev pub stays : World → SymState → SymRun
 stays w s = record { world = w; state = s; exits = []; calls = [] }
-
-abbrev pub sym_in_order : List SymStep → SymStep
-sym_in_order [] w s = stays w s
-sym_in_order (m ∷ ms) w s = then_on (m w s) (sym_in_order ms)
 
 abbrev pub with_live : SymState → Lit → SymState
 with_live s live = record { live = live; store = s.store }
@@ -143,12 +123,13 @@ joined_at first second =
       calls = first.calls ++ second.calls;
     }
 
-abbrev pub branches : MadeLit → SymStep → SymStep → SymState → SymRun
-branches c a b s =
-    let yes = and_in c.world s.live c.lit in
-    let no = and_in yes.world s.live (opposite c.lit) in
-    let first = a no.world (with_live s yes.lit) in
-    joined_at first (b first.world (with_live s no.lit))
+-- where the first branch goes, after a test
+abbrev pub yes_of : MadeLit → SymState → MadeLit
+yes_of c s = and_in c.world s.live c.lit
+
+-- and where the second does
+abbrev pub no_of : MadeLit → SymState → MadeLit
+no_of c s = and_in (yes_of c s).world s.live (opposite c.lit)
 
 -- the run ends here
 abbrev pub ended : World → SymState → How → SymRun
@@ -163,17 +144,3 @@ with_chosen (Some x) xs = x ∷ xs
 abbrev pub chosen : List SymValue → List ℕ → List SymValue
 chosen values [] = []
 chosen values (r ∷ rs) = with_chosen (slice_get values r) (chosen values rs)
-
-abbrev pub sym_node : Parts → Code-F SymStep → SymStep
-sym_node parts (Code-F.Seq steps) w s = sym_in_order steps w s
-sym_node parts (Code-F.Set r op) w s = stepped s.live (parts.set w s.store r op) []
-sym_node parts (Code-F.Load r spot) w s = stepped s.live (parts.load w s.store r spot) []
-sym_node parts (Code-F.Store spot r) w s = stepped s.live (parts.save w s.store spot r) []
-sym_node parts (Code-F.Call u ins outs) w s = called s.live (parts.call w s.store u ins outs)
-sym_node parts (Code-F.If r a b) w s = branches (parts.truth w s.store r) a b s
-sym_node parts (Code-F.Stop rs) w s = ended w s (Stops (chosen s.store.registers rs) s.store.cells)
-sym_node parts (Code-F.Fail t) w s = ended w s (Traps t)
-
--- a symbolic run of code
-abbrev pub sym_does : Parts → Code → SymStep
-sym_does parts = fold-Code SymStep (sym_node parts)

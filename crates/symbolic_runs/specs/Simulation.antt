@@ -1,22 +1,14 @@
 -- What a symbolic run stands for under an assignment.
 use Rattle.std.specs.Prelude.{◌≡◌, ℕ, Bool, true, false, cond, List, [], ◌∷◌, map, Option, Some, None}
-use Rattle.std.specs.List.{AllByRecursion}
-use Rattle.aig_build.specs.Circuits.{constant}
 use Rattle.core_ir.specs.Cells.{store_shapes}
 use Rattle.core_ir.specs.Inputs.{HaveShapes}
 use Rattle.core_ir.specs.Joint.{Side, core_of, table}
-use Rattle.core_ir.specs.Meaning.{End, Trapped, Returned, Request, Answers, Flow, Goes, Over, Waits, Run, Step, Setting, setting_of, does, entered, unit_run, unit_end, put_back, owned_cells, set_register, loaded, stored, answered, request_of, is_true}
-use Rattle.core_ir.specs.Nodes.{CodeNode, nodes_in, goes_on}
-use Rattle.core_ir.specs.Operations.{value_of}
-use Rattle.core_ir.specs.Places.{State, register, place_of}
+use Rattle.core_ir.specs.Meaning.{End, Trapped, Returned, Request, Answers, Flow, Goes, Over, Waits, Run, Step, Setting, setting_of}
+use Rattle.core_ir.specs.Places.{State}
 use Rattle.core_ir.specs.Tables.{EntryName, Effects, keyed, name_of}
 use Rattle.core_ir.specs.declared.cores.CoreObject.{CoreObject}
 use Rattle.core_ir.specs.declared.cores.JointCore.{JointCore}
-use Rattle.core_ir.specs.declared.units.Code.{Code}
-use Rattle.core_ir.specs.declared.units.Code.TheOpen.{Code-F}
-use Rattle.core_ir.specs.declared.units.CoreOp.{CoreOp}
 use Rattle.core_ir.specs.declared.units.Shape.{Shape}
-use Rattle.core_ir.specs.declared.units.Spot.{Spot}
 use Rattle.core_ir.specs.declared.units.Unit.{Unit}
 use Rattle.rvt_num.specs.declared.values.Trap.{Trap}
 use Rattle.rvt_num.specs.declared.values.Value.{Value}
@@ -24,8 +16,8 @@ use Rattle.sym_store.specs.Stores.{LitStore, StandsFor}
 use Rattle.sym_values.specs.Valuations.{Valuation, IsValuation}
 use Rattle.sym_values.specs.Values.{values_under}
 use Rattle.uf_abstraction.specs.Applications.{LitShape, first_trap, flat_key, AnswerAll}
-use Rattle.symbolic_runs.specs.Keeping.{Layout, layout_of, IsWorldKept, IsStoreKept, IsStateKept, PartsKeep, anywhere, fits_of}
-use Rattle.symbolic_runs.specs.Runs.{World, SymState, How, Traps, Stops, Exit, GuardedCall, SymRun, Stepped, Called, MadeLit, Parts, sym_does}
+use Rattle.symbolic_runs.specs.Keeping.{Layout, IsRunKept, IsStepKept, IsCalledKept, IsTestKept}
+use Rattle.symbolic_runs.specs.Runs.{World, SymState, How, Traps, Stops, Exit, GuardedCall, SymRun, Stepped, Called, MadeLit}
 
 -- the run that is looked at: a unit, an assignment, and how calls are answered
 pub record Seen : Type 0 where
@@ -47,6 +39,9 @@ at_unit seen = setting_of (objects_of seen) seen.unit
 pub record Holds (seen : Seen) (w : World) : Type 0 where
   pub valued : IsValuation w.nodes seen.v
   pub answer : AnswerAll seen.joint seen.effects seen.shared seen.side seen.v seen.answers w.applied
+
+abbrev pub anywhere : ℕ → Type 0
+anywhere o = Prim.Unit {0}
 
 -- a state of the unit: each value has its shape
 pub record IsProper (joint : JointCore) (unit : Unit) (c : State) : Type 0 where
@@ -114,7 +109,7 @@ pub record Simulates (seen : Seen) (w : World) (s : SymState) (o : SymRun) (g : 
   pub dead : Holds seen o.world → seen.v s.live ≡ false → IsDead seen.v o
   pub alive : Holds seen o.world → (c : State) → seen.v s.live ≡ true → Stand seen s.store c → Matches seen o (g c)
 
--- ---- what is asked of the parts
+-- ---- steps of a run
 
 abbrev pub StepFlow : Seen → Stepped → Flow → Type 0
 StepFlow seen p (Goes c) = (first_trap seen.v p.traps ≡ None) × Stand seen p.store c
@@ -135,45 +130,46 @@ pub record TestIs (seen : Seen) (w : World) (s : LitStore) (m : MadeLit) (f : St
   pub back : Holds seen m.world → Holds seen w
   pub is : Holds seen m.world → (c : State) → Stand seen s c → seen.v m.lit ≡ f c
 
-pub record PartsHold (seen : Seen) (l : Layout) (fits : CodeNode → Type 0) (parts : Parts) : Type 0 where
-  pub set : (w : World) (s : LitStore) (r : ℕ) (op : CoreOp) → IsWorldKept l w → IsStoreKept l w.nodes s → fits (Code-F.Set r op) → StepIs seen w s (parts.set w s r op) (λ c. set_register c r (value_of (objects_of seen) c.registers op))
-  pub load : (w : World) (s : LitStore) (r : ℕ) (spot : Spot) → IsWorldKept l w → IsStoreKept l w.nodes s → fits (Code-F.Load r spot) → StepIs seen w s (parts.load w s r spot) (λ c. loaded (objects_of seen) c r (place_of (objects_of seen) seen.unit.registers c.registers spot))
-  pub save : (w : World) (s : LitStore) (spot : Spot) (r : ℕ) → IsWorldKept l w → IsStoreKept l w.nodes s → fits (Code-F.Store spot r) → StepIs seen w s (parts.save w s spot r) (λ c. stored (objects_of seen) c (register c.registers r) (place_of (objects_of seen) seen.unit.registers c.registers spot))
-  pub call : (w : World) (s : LitStore) (u : ℕ) (ins outs : List ℕ) → IsWorldKept l w → IsStoreKept l w.nodes s → fits (Code-F.Call u ins outs) → CallIs seen w s (parts.call w s u ins outs) (λ c. answered c outs (seen.answers (request_of c u ins))) (λ c. request_of c u ins)
-  pub truth : (w : World) (s : LitStore) (r : ℕ) → IsWorldKept l w → IsStoreKept l w.nodes s → fits (Code-F.If r tt tt) → TestIs seen w s (parts.truth w s r) (λ c. is_true (register c.registers r))
+-- ---- whatever the assignment
 
--- the parts keep layouts, and are worth what the unit does
-pub record AreRight (seen : Seen) (answers : EntryName → LitShape) (keys : EntryName → List Shape) (parts : Parts) : Type 0 where
-  pub keep : PartsKeep (layout_of seen.joint seen.unit answers keys) (fits_of seen.joint seen.side seen.unit) parts
-  pub hold : PartsHold seen (layout_of seen.joint seen.unit answers keys) (fits_of seen.joint seen.side seen.unit) parts
+-- what is run: a unit of a version, the effects of units and the shared pairs by which its calls are named, and the shapes of the
+-- answers and of the keys of each name
+pub record Subject : Type 0 where
+  pub joint : JointCore
+  pub effects : Effects
+  pub shared : ℕ → Bool
+  pub side : Side
+  pub unit : Unit
+  pub given : EntryName → LitShape
+  pub keys : EntryName → List Shape
 
--- ---- the laws
+abbrev pub layout : Subject → Layout
+layout x =
+    record { registers = x.unit.registers; results = x.unit.results; cells = store_shapes (table x.joint); answers = x.given; keys = x.keys }
 
--- a symbolic run of fitting code stands for its run
-abbrev pub SimulationLaw : Type 0
-SimulationLaw = (seen : Seen) (answers : EntryName → LitShape) (keys : EntryName → List Shape) (parts : Parts)
-    → AreRight seen answers keys parts
-    → (code : Code) → AllByRecursion (fits_of seen.joint seen.side seen.unit) (nodes_in code)
-    → (w : World) (s : SymState) → IsWorldKept (layout_of seen.joint seen.unit answers keys) w → IsStateKept (layout_of seen.joint seen.unit answers keys) w.nodes s
-    → Simulates seen w s (sym_does parts code w s) (does (at_unit seen) seen.answers code)
+abbrev pub sees : Subject → Answers → Valuation → Seen
+sees x answers v =
+    record { joint = x.joint; effects = x.effects; shared = x.shared; side = x.side; unit = x.unit; answers = answers; v = v }
 
--- a unit's body takes one exit, which is its end, and makes the calls of its run
-pub record IsExecuted (seen : Seen) (args store : List Value) (o : SymRun) : Type 0 where
-  pub end : End
-  pub one_exit : exits_under seen.v o.exits ≡ Some end ∷ []
-  pub is_end : unit_end (objects_of seen) seen.answers (Some seen.unit) args store ≡ Some (put_back (owned_cells (objects_of seen) seen.unit) store end)
-  pub calls : calls_under seen.v o.calls ≡ map (as_made seen) (unit_run (objects_of seen) seen.answers (Some seen.unit) args store).calls
+abbrev pub objects_in : Subject → List CoreObject
+objects_in x = (core_of x.joint x.side).objects
 
--- the beginning of a run, which goes on whatever the assignment
-abbrev pub at_start : LitStore → SymState
-at_start s = record { live = constant true; store = s }
+-- a symbolic run of a stretch of code that does this
+pub record IsRunOf (x : Subject) (w : World) (s : SymState) (g : Answers → Step) (o : SymRun) : Type 0 where
+  pub kept : IsRunKept (layout x) w o
+  pub is : (answers : Answers) (v : Valuation) → Simulates (sees x answers v) w s o (g answers)
 
--- from the unit's entry
-abbrev pub ExecutionLaw : Type 0
-ExecutionLaw = (seen : Seen) (answers : EntryName → LitShape) (keys : EntryName → List Shape) (parts : Parts)
-    → AreRight seen answers keys parts
-    → AllByRecursion (fits_of seen.joint seen.side seen.unit) (nodes_in seen.unit.body) → goes_on seen.unit.body ≡ false
-    → (w : World) (s : LitStore) (args store : List Value) → IsWorldKept (layout_of seen.joint seen.unit answers keys) w → IsStoreKept (layout_of seen.joint seen.unit answers keys) w.nodes s
-    → Stand seen s (entered (objects_of seen) seen.unit args store)
-    → Holds seen (sym_does parts seen.unit.body w (at_start s)).world
-    → IsExecuted seen args store (sym_does parts seen.unit.body w (at_start s))
+-- a symbolic step
+pub record IsStepOf (x : Subject) (w : World) (s : LitStore) (f : Answers → State → Flow) (p : Stepped) : Type 0 where
+  pub kept : IsStepKept (layout x) w p
+  pub is : (answers : Answers) (v : Valuation) → StepIs (sees x answers v) w s p (f answers)
+
+-- a call with its answer
+pub record IsCallOf (x : Subject) (w : World) (s : LitStore) (f : Answers → State → Flow) (q : State → Request) (p : Called) : Type 0 where
+  pub kept : IsCalledKept (layout x) w p
+  pub is : (answers : Answers) (v : Valuation) → CallIs (sees x answers v) w s p (f answers) q
+
+-- a test
+pub record IsTestOf (x : Subject) (w : World) (s : LitStore) (f : State → Bool) (m : MadeLit) : Type 0 where
+  pub kept : IsTestKept (layout x) w m
+  pub is : (answers : Answers) (v : Valuation) → TestIs (sees x answers v) w s m f

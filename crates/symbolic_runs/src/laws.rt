@@ -1,22 +1,46 @@
-//! What a symbolic run is worth, as laws: functions without a body.
+//! How symbolic runs are put together, and what they are worth, as laws: functions without a body.
 
-ghost use Rattle.symbolic_runs.specs.Keeping.{KeepingLaw};
-ghost use Rattle.symbolic_runs.specs.Simulation.{ExecutionLaw, SimulationLaw};
-ghost use Rattle.symbolic_runs.specs.Ending.{EndLaw, UnitLaw};
+ghost use Rattle.symbolic_runs.specs.Ending.{EndLaw, UnitRule};
+ghost use Rattle.symbolic_runs.specs.Rules.{BranchesRule, CallRule, ChoiceRule, FailRule, NothingRule, SequenceRule, StepRule, StopRule};
 
-/// Whatever the assignment, a symbolic run keeps the layouts of its values, and its literals stand in the circuit.
-pub fn keeping()
-    ensures { KeepingLaw }
+/// Nothing at all leaves everything as it was.
+pub fn nothing()
+    ensures { NothingRule }
 {}
 
-/// Under each assignment a symbolic run of code is the run of the code under the answers of the applications.
-pub fn simulation()
-    ensures { SimulationLaw }
+/// One stretch of code after another.
+pub fn sequence()
+    ensures { SequenceRule }
 {}
 
-/// Under each assignment a symbolic run of a unit has the end and the calls of the unit's run.
-pub fn execution()
-    ensures { ExecutionLaw }
+/// A step: the first trap whose literal is true ends the run.
+pub fn step()
+    ensures { StepRule }
+{}
+
+/// A call, and its answer.
+pub fn call()
+    ensures { CallRule }
+{}
+
+/// The beginnings of two branches are kept.
+pub fn branches()
+    ensures { BranchesRule }
+{}
+
+/// Two branches, which are joined.
+pub fn either()
+    ensures { ChoiceRule }
+{}
+
+/// A return.
+pub fn stop()
+    ensures { StopRule }
+{}
+
+/// A trap.
+pub fn fail()
+    ensures { FailRule }
 {}
 
 /// The end that exits make together is that of the exit which is taken.
@@ -24,7 +48,7 @@ pub fn ending()
     ensures { EndLaw }
 {}
 
-/// Under each assignment the symbolic run of a unit, from its entry to its return, has the end and the calls of the unit.
+/// A unit, from its entry to its return: its end and its calls are those of the unit's run.
 pub fn unit()
-    ensures { UnitLaw }
+    ensures { UnitRule }
 {}

@@ -1,5 +1,0 @@
-use Rattle.symbolic_runs.proofs.Kept.{keeping}
-use Rattle.symbolic_runs.proofs.laws.keeping.Goals as goal
-
-pub returns : goal.returns
-returns c = keeping
