@@ -1,5 +1,5 @@
 -- Two blocks of which one is passed over.
-use Rattle.std.proofs.Common.{◌≡◌, ℕ, suc, ◌+◌, List, [], ◌∷◌, ◌++◌, length, sym, ap, ◌∙◌, ◌-◌, arith, append_assoc, length-append}
+use Rattle.std.proofs.Common.{◌≡◌, ℕ, suc, ◌+◌, List, [], ◌∷◌, ◌++◌, length, sym, ap, ◌∙◌, ◌-◌, Result, Ok, Err, OnOk, arith, append_assoc, length-append}
 use Rattle.std.specs.Prelude.{slice_set}
 use Rattle.std.proofs.Math.Seq.{set-append_seam}
 use Rattle.c_code.specs.Expressions.{choosing}
@@ -29,8 +29,8 @@ chosen slot p1 p2 c1 c2 c3 c4 c5 c6 first second at1 e2 e3 begins at2 e5 jumps =
     let jump = I.Jump (W.Unless slot) (suc (length (first ++ I.Finish ∷ []))) in
     let e4 : c4 ≡ c1 ++ jump ∷ (first ++ I.Finish ∷ []) = begins c1 first I.Finish (behind c1 c2 c3 first I.Finish e2 e3) at1 in
     let flat : c5 ≡ (c1 ++ jump ∷ first) ++ I.Finish ∷ second =
-        e5 ∙ ap (λ l. l ++ second) e4 ∙ append_assoc c1 (jump ∷ (first ++ I.Finish ∷ [])) second ∙ ap (λ l. c1 ++ jump ∷ l) (append_assoc first (I.Finish ∷ []) second)
-        ∙ sym (append_assoc c1 (jump ∷ first) (I.Finish ∷ second)) in
+    e5 ∙ ap (λ l. l ++ second) e4 ∙ append_assoc c1 (jump ∷ (first ++ I.Finish ∷ [])) second ∙ ap (λ l. c1 ++ jump ∷ l) (append_assoc first (I.Finish ∷ []) second)
+    ∙ sym (append_assoc c1 (jump ∷ first) (I.Finish ∷ second)) in
     let at : p2 ≡ length (c1 ++ jump ∷ first) = at2 ∙ shorter c1 c2 c3 first I.Finish e2 e3 ∙ sym (length-append c1 (jump ∷ first)) in
     jumps (c1 ++ jump ∷ first) second I.Finish flat at ∙ append_assoc c1 (jump ∷ first) _
 
@@ -40,3 +40,7 @@ filled old before block room make at len e here long =
     let far : len - at ≡ suc (length block) = omega (arith, long, ap length e, length-append before (room ∷ block), here) in
     ap (λ l. slice_set l at (make (len - at))) e ∙ ap (λ n. slice_set (before ++ room ∷ block) n (make (len - at))) here
     ∙ set-append_seam before room block (make (len - at)) ∙ ap (λ n. before ++ make n ∷ block) far
+
+pub on_ok : {A E P Q : Type 0} (r : Result A E) → (P → Q) → OnOk r P → OnOk r Q
+on_ok (Ok a) f h = f h
+on_ok (Err e) f h = h

@@ -1,7 +1,7 @@
 -- The code of what statements do (C 6.8.3).
 use Rattle.std.specs.Prelude.{ℕ, List, [], ◌∷◌, ◌++◌, Option, Some, None}
 use Rattle.rvt_tree.specs.declared.expressions.Variable.{Variable}
-use Rattle.rvt_tree.specs.Syntax.{LvalueExpression, Expression, Arguments, Action, evaluate, call_void, discard, discard_void, assign, compound_assign, advance, retreat, step, step_pointer}
+use Rattle.rvt_tree.specs.Syntax.{Expression, Arguments, Action, evaluate, call_void, discard, discard_void, assign, compound_assign, advance, retreat, step, step_pointer}
 use Rattle.c_code.specs.Expressions.{variable_of, argument_count, place_code, value_code, arguments_code}
 use Rattle.c_code.specs.declared.instructions.Unary.{Unary}
 use Rattle.c_code.specs.declared.instructions.Unary.TheVariants as One

@@ -55,11 +55,7 @@ pub fn jump_over(code: &mut Vec<Instruction>, at: usize, when: When)
 
 /// The first of two blocks, which stands behind its room, is passed over where the value in a slot does not hold; behind
 /// it comes room for the jump over the second. Gives the place of that.
-pub fn begin_second(
-    code: &mut Vec<Instruction>,
-    at: usize,
-    slot: u32,
-) -> Result<usize, AllocError>
+pub fn begin_second(code: &mut Vec<Instruction>, at: usize, slot: u32) -> Result<usize, AllocError>
     requires { at < length code.old.items }
     ensures first { OnOk result ((before first : List Instruction) (room : Instruction) → code.old.items ≡ before ++ room ∷ first → at ≡ length before → code.new.items ≡ before ++ I.Jump (W.Unless slot) (suc (length (first ++ I.Finish ∷ []))) ∷ (first ++ I.Finish ∷ [])) }
     ensures place { IfOk result (λ second. second ≡ length code.old.items) }

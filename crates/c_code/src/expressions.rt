@@ -66,7 +66,10 @@ pub fn locate(
         }
         Lvalue::Arrow(pointer, structure, _, cell) => {
             value(code, pointer, slot, to)?;
-            put(code, Instruction::Aim(Pointee::Struct(*structure), to, slot))?;
+            put(
+                code,
+                Instruction::Aim(Pointee::Struct(*structure), to, slot),
+            )?;
             put(code, Instruction::Member(*cell, to))
         }
     }
@@ -105,7 +108,10 @@ fn address(
         }
         Lvalue::Arrow(pointer, structure, _, cell) => {
             value(code, pointer, slot, to)?;
-            put(code, Instruction::Aim(Pointee::Struct(*structure), to, slot))?;
+            put(
+                code,
+                Instruction::Aim(Pointee::Struct(*structure), to, slot),
+            )?;
             put(code, Instruction::Member(*cell, to))?;
             put(code, Instruction::Point(to, slot))
         }
@@ -241,12 +247,7 @@ fn second(
 
 /// The right side of `&&`, where the left one holds.
 #[cycle(value)]
-fn both(
-    code: &mut Vec<Instruction>,
-    b: &Box<Expr>,
-    to: u32,
-    place: u32,
-) -> Result<(), AllocError>
+fn both(code: &mut Vec<Instruction>, b: &Box<Expr>, to: u32, place: u32) -> Result<(), AllocError>
     ensures { OnOk result (code.new.items ≡ code.old.items ++ choosing to (value_code (expr_view b.now.value) to place ++ I.Unary One.Truth to ∷ []) (truth_code 0 to ∷ [])) }
 {
     let first = leave_room(code)?;
@@ -259,12 +260,7 @@ fn both(
 
 /// The right side of `||`, where the left one does not hold.
 #[cycle(value)]
-fn either(
-    code: &mut Vec<Instruction>,
-    b: &Box<Expr>,
-    to: u32,
-    place: u32,
-) -> Result<(), AllocError>
+fn either(code: &mut Vec<Instruction>, b: &Box<Expr>, to: u32, place: u32) -> Result<(), AllocError>
     ensures { OnOk result (code.new.items ≡ code.old.items ++ choosing to (truth_code 1 to ∷ []) (value_code (expr_view b.now.value) to place ++ I.Unary One.Truth to ∷ [])) }
 {
     let first = leave_room(code)?;

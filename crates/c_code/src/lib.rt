@@ -2,9 +2,14 @@
 #![tactic(auto)]
 
 mod acts;
+mod bodies;
 mod emitting;
 mod expressions;
+mod initializers;
 mod instructions;
+mod loops;
+mod statements;
 
-pub use acts::act;
+pub use bodies::compile;
+pub use initializers::CellCounts;
 pub use instructions::{Binary, Instruction, Manner, Unary, When};

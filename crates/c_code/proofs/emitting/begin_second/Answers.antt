@@ -1,4 +1,4 @@
-use Rattle.std.proofs.Common.{[], ◌∷◌, ap, ◌∙◌, arith, length, length-append}
+use Rattle.std.proofs.Common.{[], ◌∷◌, ap, arith, length, length-append}
 use Rattle.c_code.specs.declared.instructions.Instruction.TheVariants as I
 use Rattle.c_code.proofs.emitting.begin_second.Goals as goal
 
