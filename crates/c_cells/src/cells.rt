@@ -1,6 +1,6 @@
 //! A cell, and what it holds.
 
-ghost use Rattle.std.specs.Prelude.{◌≡◌, ◌-◌, ◌^◌, ◌≤ℤ◌, pos, negsuc};
+ghost use Rattle.std.specs.Prelude.{◌≡◌, true, ◌-◌, ◌^◌, ◌≤ℤ◌, pos, negsuc};
 ghost use Rattle.rvt_num.specs.Kinds.{IsOf};
 ghost use Rattle.rvt_num.specs.Wrapping.{wrapped};
 ghost use Rattle.rvt_num.specs.declared.values.Value.TheVariants as V;
@@ -12,7 +12,7 @@ use rvt_num::{Kind, Num, Value};
 use std::marker::Model;
 
 /// What a cell holds.
-#[derive(Clone, Copy, PartialEq, Eq, Debug)]
+#[derive(Clone, Copy, Debug)]
 pub(crate) enum Content {
     /// A number of a kind other than `U64`.
     Short(Kind, i64),
@@ -24,15 +24,15 @@ pub(crate) enum Content {
 }
 
 /// A value of a running program, in 16 bytes.
-#[derive(Clone, Copy, PartialEq, Eq, Debug)]
+#[derive(Clone, Copy, Debug)]
 pub struct Cell {
     pub(crate) content: Content,
 }
 
 impl Model for Cell {
-    ghost use Rattle.rvt_num.specs.declared.values.Value.{Value};
+    ghost use Rattle.rvt_num.specs.declared.values.Value.{Value as RunValue};
 
-    ghost Value = { Value };
+    ghost Value = { RunValue };
 
     ghost use Rattle.c_cells.specs.Contents.{value_in, IsWithin, content_of, content_of-value_in};
 
@@ -55,6 +55,14 @@ fn is_short(kind: Kind) -> bool
     }
 }
 
+fn short_value(number: Num) -> i64
+    requires { is_short number.kind ≡ true }
+    ensures value { result ≡ number.value }
+    ensures range { IsOf number.kind number.value }
+{
+    number.value() as i64
+}
+
 impl Cell {
     /// The cell that holds a value.
     pub fn of(value: Value) -> Cell
@@ -74,11 +82,8 @@ impl Cell {
     pub fn of_number(number: Num) -> Cell
         ensures { result ≡ V.Num number }
     {
-        let kind = number.kind();
-        if is_short(kind) {
-            Cell {
-                content: Content::Short(kind, number.value() as i64),
-            }
+        if is_short(number.kind()) {
+            Cell::wrapped(number.kind(), short_value(number))
         } else {
             Cell {
                 content: Content::Long(number.value() as u64),

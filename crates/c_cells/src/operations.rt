@@ -5,12 +5,11 @@ ghost use Rattle.rvt_num.specs.Operations.{converted, unary_of};
 ghost use Rattle.rvt_num.specs.declared.values.Value.TheVariants as V;
 ghost use Rattle.c_meaning.specs.Stores.{number_of, same_pointer};
 ghost use Rattle.c_meaning.specs.Expressions.{operated};
-ghost use Rattle.rvt_num.specs.Kinds.{IsOf};
 ghost use Rattle.c_meaning.specs.Statements.{updated, bumped, operation};
 ghost use Rattle.c_cells.specs.Contents.{numeral};
 
 use crate::cells::{Cell, Content};
-use crate::quick::{long_shifted, of_longs, of_short, of_shorts};
+use crate::quick::{of_short, of_shorts};
 use crate::wide;
 use rvt_num::{BinOp, Kind, Num, Trap, UnOp, promoted};
 use rvt_tree::Bump;
@@ -89,30 +88,18 @@ fn quickly(op: BinOp, a: Cell, b: Cell) -> Option<Cell>
 {
     match a.content {
         Content::Short(kind, x) => quickly_after_short(op, kind, x, b),
-        Content::Long(x) => quickly_after_long(op, x, b),
-        Content::Null => None,
-        Content::At(_, _) => None,
-    }
-}
-
-fn quickly_after_short(op: BinOp, kind: Kind, x: i64, b: Cell) -> Option<Cell>
-    requires { IsOf kind x }
-    ensures { IfSome result (λ cell. operated op (numeral kind x) b ≡ Ok cell) }
-{
-    match b.content {
-        Content::Short(other, y) => of_shorts(op, kind, x, other, y),
         Content::Long(_) => None,
         Content::Null => None,
         Content::At(_, _) => None,
     }
 }
 
-fn quickly_after_long(op: BinOp, x: u64, b: Cell) -> Option<Cell>
-    ensures { IfSome result (λ cell. operated op (numeral Kind.U64 (pos x)) b ≡ Ok cell) }
+fn quickly_after_short(op: BinOp, kind: Kind, x: i64, b: Cell) -> Option<Cell>
+    ensures { IfSome result (λ cell. operated op (numeral kind x) b ≡ Ok cell) }
 {
     match b.content {
-        Content::Short(other, y) => long_shifted(op, x, other, y),
-        Content::Long(y) => of_longs(op, x, y),
+        Content::Short(other, y) => of_shorts(op, kind, x, other, y),
+        Content::Long(_) => None,
         Content::Null => None,
         Content::At(_, _) => None,
     }

@@ -71,8 +71,14 @@ fn operations_on_other_kinds_are_those_of_gcc(rt: HostRuntime) {
     }
     let low = cell(Kind::I32, -2147483648);
     assert_eq!(rt; unary_number(UnOp::Minus, low).amount(), -2147483648);
-    assert_eq!(rt; unary_number(UnOp::Flip, cell(Kind::U32, 5)).amount(), 4294967290);
-    assert_eq!(rt; unary_number(UnOp::Flip, cell(Kind::U64, 5)).amount(), 18446744073709551610);
+    assert_eq!(rt;
+        unary_number(UnOp::Flip, cell(Kind::U32, 5)).amount(),
+        4294967290
+    );
+    assert_eq!(rt;
+        unary_number(UnOp::Flip, cell(Kind::U64, 5)).amount(),
+        18446744073709551610
+    );
 }
 
 // What C leaves undefined and this profile traps: expected from the profile.
@@ -101,13 +107,23 @@ fn conversions_and_updates_are_those_of_gcc(rt: HostRuntime) {
         (-32769, Kind::U32, 4294934527),
         (-1, Kind::U64, 18446744073709551615),
     ] {
-        assert_eq!(rt; converted(kind, cell(Kind::I64, value)).amount(), want, "{value} to {kind:?}");
+        assert_eq!(rt;
+            converted(kind, cell(Kind::I64, value)).amount(),
+            want,
+            "{value} to {kind:?}"
+        );
     }
     let byte = cell(Kind::U8, 200);
     let sum = updated(BinOp::Add, Kind::I32, byte, cell(Kind::I32, 100));
     assert_eq!(rt; sum, Ok(cell(Kind::U8, 44)));
-    assert_eq!(rt; bumped(Bump::UpAfter, cell(Kind::I8, 127)), Ok(cell(Kind::I8, -128)));
-    assert_eq!(rt; bumped(Bump::DownBefore, cell(Kind::U64, 0)), Ok(cell(Kind::U64, 18446744073709551615)));
+    assert_eq!(rt;
+        bumped(Bump::UpAfter, cell(Kind::I8, 127)),
+        Ok(cell(Kind::I8, -128))
+    );
+    assert_eq!(rt;
+        bumped(Bump::DownBefore, cell(Kind::U64, 0)),
+        Ok(cell(Kind::U64, 18446744073709551615))
+    );
 }
 
 #[test]
