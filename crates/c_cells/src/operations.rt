@@ -1,6 +1,7 @@
 //! The operations on cells: by 64 bits where that is enough, else by the exact value.
 
 ghost use Rattle.std.specs.Prelude.{◌≡◌, IfSome, pos};
+ghost use Rattle.rvt_num.specs.Kinds.{IsOf};
 ghost use Rattle.rvt_num.specs.Operations.{converted, unary_of};
 ghost use Rattle.rvt_num.specs.declared.values.Value.TheVariants as V;
 ghost use Rattle.c_meaning.specs.Stores.{number_of, same_pointer};
@@ -95,6 +96,7 @@ fn quickly(op: BinOp, a: Cell, b: Cell) -> Option<Cell>
 }
 
 fn quickly_after_short(op: BinOp, kind: Kind, x: i64, b: Cell) -> Option<Cell>
+    requires { IsOf kind x }
     ensures { IfSome result (λ cell. operated op (numeral kind x) b ≡ Ok cell) }
 {
     match b.content {

@@ -1,6 +1,7 @@
 //! The operations by 64 bits, for the operands that programs mostly have.
 
 ghost use Rattle.std.specs.Prelude.{◌≡◌, IfSome};
+ghost use Rattle.rvt_num.specs.Kinds.{IsOf};
 ghost use Rattle.rvt_num.specs.Operations.{unary_of};
 ghost use Rattle.rvt_num.specs.declared.values.Value.TheVariants as V;
 ghost use Rattle.c_meaning.specs.Expressions.{operated, truth_value};
@@ -18,6 +19,8 @@ pub fn truth_value(holds: bool) -> Cell
 
 /// An operation on numbers that fit 64 bits with a sign; none where the exact value doesn't, or where the operation traps or is rare.
 pub fn of_shorts(op: BinOp, kind: Kind, x: i64, other: Kind, y: i64) -> Option<Cell>
+    requires left { IsOf kind x }
+    requires right { IsOf other y }
     ensures { IfSome result (λ cell. operated op (numeral kind x) (numeral other y) ≡ Ok cell) }
 {
     match op {
@@ -32,7 +35,10 @@ pub fn of_shorts(op: BinOp, kind: Kind, x: i64, other: Kind, y: i64) -> Option<C
         BinOp::Ge => Some(truth_value(y <= x)),
         BinOp::Div => quotient(kind, x, other, y),
         BinOp::Rem => remainder(kind, x, other, y),
-        BinOp::Shl | BinOp::Shr | BinOp::And | BinOp::Or | BinOp::Xor => None,
+        BinOp::And => conjunction(kind, x, other, y),
+        BinOp::Or => disjunction(kind, x, other, y),
+        BinOp::Xor => difference(kind, x, other, y),
+        BinOp::Shl | BinOp::Shr => None,
     }
 }
 
@@ -54,6 +60,42 @@ fn remainder(kind: Kind, x: i64, other: Kind, y: i64) -> Option<Cell>
         return None;
     }
     Some(Cell::wrapped(kind, x % y))
+}
+
+/// `x & y` where neither is negative.
+fn conjunction(kind: Kind, x: i64, other: Kind, y: i64) -> Option<Cell>
+    requires left { IsOf kind x }
+    requires right { IsOf other y }
+    ensures { IfSome result (λ cell. operated BinOp.And (numeral kind x) (numeral other y) ≡ Ok cell) }
+{
+    if x < 0 || y < 0 {
+        return None;
+    }
+    Some(Cell::wrapped(kind, x & y))
+}
+
+/// `x | y` where neither is negative.
+fn disjunction(kind: Kind, x: i64, other: Kind, y: i64) -> Option<Cell>
+    requires left { IsOf kind x }
+    requires right { IsOf other y }
+    ensures { IfSome result (λ cell. operated BinOp.Or (numeral kind x) (numeral other y) ≡ Ok cell) }
+{
+    if x < 0 || y < 0 {
+        return None;
+    }
+    Some(Cell::wrapped(kind, x | y))
+}
+
+/// `x ^ y` where neither is negative.
+fn difference(kind: Kind, x: i64, other: Kind, y: i64) -> Option<Cell>
+    requires left { IsOf kind x }
+    requires right { IsOf other y }
+    ensures { IfSome result (λ cell. operated BinOp.Xor (numeral kind x) (numeral other y) ≡ Ok cell) }
+{
+    if x < 0 || y < 0 {
+        return None;
+    }
+    Some(Cell::wrapped(kind, x ^ y))
 }
 
 /// `-x`, `~x` and `!x`; none where the exact value doesn't fit 64 bits.
