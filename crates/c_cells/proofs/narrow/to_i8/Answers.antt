@@ -1,0 +1,22 @@
+use Rattle.std.proofs.Common.{◌≡◌, to_z, of_z, sym, ap, ◌∙◌, subst, rules}
+use Rattle.std.specs.Int.{w8, w64}
+use Rattle.std.proofs.lemmas.Int.{to_z-of_z}
+use Rattle.rvt_num.specs.declared.kinds.Kind.TheVariants.{I8}
+use Rattle.rvt_num.specs.Kinds.{IsOf}
+use Rattle.rvt_num.specs.Wrapping.{pattern_of, signed_reading}
+use Rattle.rvt_num.proofs.Patterns.{pattern_below}
+use Rattle.rvt_num.proofs.Readings.{reading_in_range}
+use Rattle.c_cells.proofs.Cuts.{reading_8}
+use Rattle.c_cells.proofs.narrow.to_i8.Goals as goal
+
+value : (c : goal.After-from) → to_z w64 (of_z w64 c.from.result) ≡ signed_reading 8 (pattern_of 8 c.args.value)
+value c =
+    to_z-of_z w64 c.from.result (search rules) ∙ c.from.ensures ∙ to_z-of_z w8 c.cast_signed.result (search rules)
+    ∙ c.cast_signed.ensures ∙ reading_8 c.low_8.result ∙ ap (signed_reading 8) c.low_8.ensures
+    ∙ ap (λ z. signed_reading 8 (pattern_of 8 z)) (to_z-of_z w64 c.args.value (search rules))
+
+pub returns-clause-value : goal.returns-clause-value
+returns-clause-value c = value c
+
+pub returns-clause-range : goal.returns-clause-range
+returns-clause-range c = subst (λ z. IsOf I8 z) (sym (value c)) (reading_in_range I8 (pattern_of 8 c.args.value) (pattern_below 8 c.args.value))
