@@ -1,3 +1,4 @@
 pub mod Alike
 pub mod Objects
 pub mod Trees
+pub mod Loops

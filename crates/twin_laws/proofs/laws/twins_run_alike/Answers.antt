@@ -1,4 +1,4 @@
-use Rattle.twin_laws.proofs.Trees.{meaning_alike}
+use Rattle.twin_laws.proofs.Loops.{loop_in_function_same}
 use Rattle.twin_laws.proofs.laws.twins_run_alike.Goals as goal
 
 pub returns : goal.returns
