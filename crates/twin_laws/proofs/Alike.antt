@@ -1,7 +1,6 @@
 -- Two parts that do the same in states in which every cell holds a value of a sort, and that leave such states.
 use Rattle.std.proofs.Common.{◌≡◌, ℕ, zero, suc, List, [], ◌∷◌, ◌++◌, get_or, Bool, true, false, if◌then◌else◌, All, Option, Some, None, Result, Ok, Err, unwrap_or, refl, ap, ◌∙◌}
 use Rattle.std.proofs.lemmas.List.Elements.{All-head, All-tail}
-use Rattle.rvt_num.specs.Number.{Number}
 use Rattle.rvt_num.specs.declared.values.Trap.{Trap}
 use Rattle.rvt_num.specs.declared.values.Value.{Value}
 use Rattle.c_meaning.specs.Outcomes.{State, Outcome, Done, Returning, Trapped, Cut, Deep, Doing, Manner, Normally, Broke, Continued, give, go_on, and_then, unless_trapped}

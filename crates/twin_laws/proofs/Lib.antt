@@ -2,3 +2,5 @@ pub mod Alike
 pub mod Objects
 pub mod Trees
 pub mod Loops
+pub mod Functions
+pub mod Inputs

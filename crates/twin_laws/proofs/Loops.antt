@@ -1,5 +1,5 @@
 -- The loop statements of two parts of a program that are the same under a pairing do the same.
-use Rattle.std.proofs.Common.{◌≡◌, ℕ, List, [], ◌++◌, Bool, true, false, if◌then◌else◌, nat_eq, All, Option, Some, None, option_map, refl, subst}
+use Rattle.std.proofs.Common.{◌≡◌, ℕ, List, ◌++◌, Bool, true, false, if◌then◌else◌, nat_eq, All, Option, Some, None, option_map, refl, subst}
 use Rattle.rvt_num.specs.declared.values.Value.{Value}
 use Rattle.rvt_tree.specs.declared.statements.Stmt.{Stmt}
 use Rattle.rvt_tree.specs.declared.pairings.Pairing.{Pairing}

@@ -1,8 +1,7 @@
 -- Two programs that stand over one table read and write alike what is paired in it, and hold no pointer but into what is addressable or paired.
-use Rattle.std.proofs.Common.{◌≡◌, ℕ, zero, suc, ◌+◌, List, [], ◌∷◌, ◌++◌, length, get_or, set, take, drop, map, slice_get, Bool, true, false, All, nat_le, if◌then◌else◌, Option, Some, None, option_map, Result, Ok, Err, refl, sym, ap, ap₂, ◌∙◌, subst, ℤ, pos, negsuc, ◌+ℤ◌}
+use Rattle.std.proofs.Common.{◌≡◌, ℕ, zero, suc, ◌+◌, List, [], ◌∷◌, ◌++◌, length, get_or, set, take, drop, map, slice_get, Bool, true, false, All, nat_le, if◌then◌else◌, Option, Some, None, option_map, Ok, Err, refl, sym, ap, ap₂, ◌∙◌, subst, ℤ, pos, negsuc, ◌+ℤ◌}
 use Rattle.std.proofs.lemmas.List.Elements.{All-nil, All-cons, All-append, All-set, All-take, All-drop}
 use Rattle.rvt_num.specs.declared.kinds.Kind.{Kind}
-use Rattle.rvt_num.specs.declared.values.Trap.{Trap}
 use Rattle.rvt_num.specs.declared.values.Trap.TheVariants as T
 use Rattle.rvt_num.specs.declared.values.Value.{Value}
 use Rattle.rvt_num.specs.declared.values.Value.TheVariants.{Num, Null, At}
@@ -17,7 +16,7 @@ use Rattle.rvt_tree.specs.declared.programs.Object.{Object}
 use Rattle.rvt_tree.specs.Same.{ArePaired, SamePointee, SameVariable}
 use Rattle.c_types.specs.Layout.{Plan, Shape, AnArray, AStruct, repeated, is_whole, plan_with, plan_of, shape_of}
 use Rattle.c_meaning.specs.Outcomes.{State, Done, Manner, unless_trapped}
-use Rattle.c_meaning.specs.Stores.{Location, stored, first_cell, objects_of, cells_in, object_cells, with_cells_in, overwritten, with_object, cells_of, locals_with, store_with, with_cells, length_of, object_length, within, moved, plan_of_object, begins_in_plan, begins_at, target, cleared, pointer_into, pointer_to}
+use Rattle.c_meaning.specs.Stores.{Location, stored, first_cell, objects_of, cells_in, with_cells_in, overwritten, with_object, cells_of, locals_with, store_with, with_cells, length_of, object_length, within, moved, plan_of_object, begins_in_plan, begins_at, target, cleared, pointer_into, pointer_to}
 use Rattle.c_meaning.specs.Expressions.{looked_up}
 use Rattle.c_meaning.specs.Statements.{put, put_cells, cleared_cells, locals_without, left_scope}
 use Rattle.c_meaning.specs.Runs.{zero_cells, is_owner, for_owned, opened, closed}

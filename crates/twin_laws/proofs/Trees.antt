@@ -1,5 +1,5 @@
 -- Two parts of a program that are the same under a pairing do the same, where paired functions give the same answers and pointers touch only what is paired.
-use Rattle.std.proofs.Common.{◌≡◌, ℕ, List, [], ◌∷◌, ◌++◌, take, drop, nat_lt, Bool, true, false, if◌then◌else◌, IsTrue, All, Option, Some, None, Result, Ok, Err, refl, sym, ap, ap₂, ◌∙◌, subst, ℤ, pos, negsuc, neg_ℤ, unwrap_or}
+use Rattle.std.proofs.Common.{◌≡◌, ℕ, List, [], ◌∷◌, ◌++◌, take, drop, nat_lt, Bool, true, false, if◌then◌else◌, IsTrue, All, Option, Some, None, Result, Ok, Err, refl, ap, ap₂, ◌∙◌, subst, ℤ, pos, negsuc, neg_ℤ}
 use Rattle.std.proofs.lemmas.List.Elements.{All-nil, All-cons, All-append, All-take, All-drop}
 use Rattle.rvt_num.specs.Number.{Number}
 use Rattle.rvt_num.specs.Operations.{binary_of, converted}

@@ -1,5 +1,5 @@
 -- Two programs over one table of objects, in which some constants may have other contents.
-use Rattle.std.specs.Prelude.{◌≡◌, ℕ, List, [], ◌∷◌, length, slice_get, Bool, true, false, Option, Some, None}
+use Rattle.std.specs.Prelude.{◌≡◌, ℕ, List, [], ◌∷◌, length, slice_get, true, Option, Some}
 use Rattle.rvt_num.specs.declared.values.Value.{Value}
 use Rattle.rvt_num.specs.declared.values.Value.TheVariants.{Num}
 use Rattle.rvt_tree.specs.declared.types.Pointee.{Pointee}
