@@ -19,14 +19,14 @@ use Rattle.c_meaning.specs.Tables.{put_at}
 use Rattle.c_meaning.specs.Loops.{Loop, loop_of, zero_locals, loop_locals, stop_of_loop, looped, run_loop}
 use Rattle.c_meaning.specs.Twins.{SameObjectNumber, SameLocals, SameResult, SameBody, SameFunction, AreTwins, IsClosed}
 use Rattle.body_pointees.specs.Pointees.{body_pointees}
-use Rattle.twin_laws.specs.Tables.{StandOverTheTable}
 use Rattle.twin_laws.specs.Touches.{FunctionTouchesPaired, TouchOnlyPaired}
+use Rattle.twin_laws.specs.Laws.{AreTwinsUnder}
 use Rattle.twin_laws.proofs.Alike.{each_of, Anything, IsHeld, Leaves, Alike, give_alike, spend_alike, turns_alike}
-use Rattle.twin_laws.proofs.Objects.{zeros_same, opened_same, closed_same, with_object_same, with_object_open, opened_open, closed_open}
+use Rattle.twin_laws.proofs.Objects.{OneTable, zeros_same, opened_same, closed_same, with_object_same, with_object_open, opened_open, closed_open}
 use Rattle.twin_laws.proofs.Trees.{Opens, Touch, meaning_alike}
 use Rattle.twin_laws.proofs.Loops.{SameLoops, loop_in_function_same}
 
-module _ (pairing : Pairing) (program program' : Program) (one : StandOverTheTable pairing program program') where
+module _ (pairing : Pairing) (program program' : Program) (one : OneTable pairing program program') where
   abbrev Open : Value → Type 0
   Open = Opens pairing program program' one
 
@@ -230,3 +230,6 @@ module _ (pairing : Pairing) (program program' : Program) (one : StandOverTheTab
         ap (stop_of_loop n interface) (looped_same n d number _ _ loops before (record { locals = put_at_open interface given _ all (zero_locals_open (slice_get program.functions f)); store = held }))
         ∙ ap (λ zeros. stop_of_loop n interface (looped (running program' n d) number (loop_of program' (running program' n d) g number) (record { locals = put_at interface given zeros; store = store; kept = n })))
         (zero_locals_same _ _ (closed f g paired))
+
+pub one_table : (pairing : Pairing) (program program' : Program) → AreTwinsUnder pairing program program' → OneTable pairing program program'
+one_table pairing program program' twins = record { objects = twins.stand.objects; contents = twins.contents; table = twins.stand.table; structs = twins.stand.structs }

@@ -15,7 +15,7 @@ use Rattle.c_meaning.specs.Laws.{OneEnd}
 use Rattle.c_meaning.specs.Promises.{Part, AFunction, ALoop, Start, flat, run_part, IsNumberOf, IsPointerInto, AreNumbersOf, AreOfPlan, IsOnly, IsOfType, AreOfTypes, AreOfKinds, mutable_cells, types_of, IsInputOf, Full, function_versions, loop_versions}
 use Rattle.twin_laws.specs.Touches.{is_addressable, PointsOpenly}
 use Rattle.twin_laws.specs.Laws.{AreTwinsUnder}
-use Rattle.twin_laws.proofs.Functions.{runs_same, loop_runs_same}
+use Rattle.twin_laws.proofs.Functions.{one_table, runs_same, loop_runs_same}
 
 -- ---- what an input holds
 
@@ -94,11 +94,11 @@ module _ (pairing : Pairing) (program program' : Program) (twins : AreTwinsUnder
   pub twins_full : OneEnd program' → (f g : ℕ) → ArePaired pairing.functions f g → (reached reached' : ℕ → Bool) → Full (function_versions program program' f g reached reached')
   twins_full one f g paired reached reached' =
       alike_full program program' (AFunction f) (AFunction g) reached reached' one
-      (λ start input n d. runs_same pairing program program' twins.stand twins.closed twins.touch f g paired (flat start.given) start.store
+      (λ start input n d. runs_same pairing program program' (one_table pairing program program' twins) twins.closed twins.touch f g paired (flat start.given) start.store
       (flat_open pairing program reached (types_of program (AFunction f)) start.given input.given) (store_open pairing program (mutable_cells (objects_of program)) start.store input.store) n d)
 
   pub loops_full : OneEnd program' → (f g : ℕ) → ArePaired pairing.functions f g → (number : ℕ) (interface : List ℕ) (reached reached' : ℕ → Bool) → Full (loop_versions program program' f g number interface reached reached')
   loops_full one f g paired number interface reached reached' =
       alike_full program program' (ALoop f number interface) (ALoop g number interface) reached reached' one
-      (λ start input n d. loop_runs_same pairing program program' twins.stand twins.closed twins.touch f g paired number interface start.given start.store
+      (λ start input n d. loop_runs_same pairing program program' (one_table pairing program program' twins) twins.closed twins.touch f g paired number interface start.given start.store
       (given_open pairing program reached (types_of program (ALoop f number interface)) start.given input.given) (store_open pairing program (mutable_cells (objects_of program)) start.store input.store) n d)

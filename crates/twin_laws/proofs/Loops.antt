@@ -13,12 +13,12 @@ use Rattle.c_meaning.specs.Statements.{or_else}
 use Rattle.c_meaning.specs.Loops.{Loop, loop_in, loop_in_block, loop_in_groups, loop_in_body, loop_in_function}
 use Rattle.c_meaning.specs.Twins.{SameBody, AreTwins}
 use Rattle.body_pointees.specs.Pointees.{expression_pointees, actions_pointees, test_pointees, statement_pointees, statements_pointees, groups_pointees, body_pointees}
-use Rattle.twin_laws.specs.Tables.{StandOverTheTable}
 use Rattle.twin_laws.specs.Touches.{FunctionTouchesPaired}
 use Rattle.twin_laws.proofs.Alike.{Each, first_part, last_part, each_of, Anything, Alike, then_alike, body_alike}
+use Rattle.twin_laws.proofs.Objects.{OneTable}
 use Rattle.twin_laws.proofs.Trees.{apart, Opens, Touch, condition_alike, acts_alike, test_alike, meaning_alike}
 
-module _ (pairing : Pairing) (program program' : Program) (one : StandOverTheTable pairing program program') where
+module _ (pairing : Pairing) (program program' : Program) (one : OneTable pairing program program') where
   -- two loops that do the same, or none on both sides
   pub record SameLoop {X : Type 0} (a b : Loop X) : Type 0 where
     pub first : a.round_first ≡ b.round_first

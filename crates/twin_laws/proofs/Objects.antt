@@ -21,10 +21,17 @@ use Rattle.c_meaning.specs.Expressions.{looked_up}
 use Rattle.c_meaning.specs.Statements.{put, put_cells, cleared_cells, locals_without, left_scope}
 use Rattle.c_meaning.specs.Runs.{zero_cells, is_owner, for_owned, opened, closed}
 use Rattle.c_meaning.specs.Outcomes.{Normally}
-use Rattle.c_meaning.specs.Twins.{SameType}
-use Rattle.twin_laws.specs.Tables.{SameButForContents, AreSameButForContents, SameNumbers, SameContents, StandOverTheTable}
+use Rattle.c_meaning.specs.Twins.{SameType, struct_cells}
+use Rattle.twin_laws.specs.Tables.{SameButForContents, AreSameButForContents, SameNumbers, SameContents, HoldTheSame}
 use Rattle.twin_laws.specs.Touches.{is_addressable, TouchesPaired, PointsOpenly}
 use Rattle.twin_laws.proofs.Alike.{Anything, WhereOk, one_of, IsHeld, Alike, unless_alike}
+
+-- one table, with the same contents in what is paired
+pub record OneTable (pairing : Pairing) (program program' : Program) : Type 0 where
+  pub objects : (a b : ℕ) → ArePaired pairing.objects a b → a ≡ b
+  pub contents : HoldTheSame pairing program program'
+  pub table : AreSameButForContents pairing program program' (objects_of program) (objects_of program')
+  pub structs : (a b : ℕ) → ArePaired pairing.structs a b → struct_cells program a ≡ struct_cells program' b
 
 -- ---- cells of types
 
@@ -130,7 +137,7 @@ module _ (pairing : Pairing) (program program' : Program) where
       ∙ ap (λ rest. (if is_owner g b.owner then change (take (stored b) before) (take (stored b) store) else take (stored b) store) ++ rest)
       (owned_same f g p objects objects' h.1 change (drop (stored b) before) (drop (stored b) store))
 
-  module _ (one : StandOverTheTable pairing program program') where
+  module _ (one : OneTable pairing program program') where
     entry : (number : ℕ) → SameEntry (slice_get (objects_of program) number) (slice_get (objects_of program') number)
     entry = entry_at (objects_of program) (objects_of program') one.table
 

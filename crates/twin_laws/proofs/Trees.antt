@@ -21,16 +21,15 @@ use Rattle.c_meaning.specs.Outcomes.{Doing, Answers, Manner, give, leave, and_th
 use Rattle.c_meaning.specs.Stores.{Location, number_of, holds, beyond, element_at, moved, pointer_to}
 use Rattle.c_meaning.specs.Expressions.{as_value, operated, times, result_value, place_of, address_of, value_of, values_of, condition}
 use Rattle.c_meaning.specs.Statements.{converted_back, updated, direction, bumped, declared_variable, declared_in, in_scope, is_case, is_default, any, replaced, replaced_alone, act, acts, initial_cells, member_cells, test_of, meaning, block, group}
-use Rattle.twin_laws.specs.Tables.{StandOverTheTable}
 use Rattle.twin_laws.specs.Touches.{TouchesPaired, PointsOpenly}
 use Rattle.twin_laws.proofs.Alike.{Each, first_part, last_part, Anything, WhereOk, Alike, give_alike, unless_alike, then_alike, if_alike, normally_alike, body_alike, group_alike, AlikeOption, either_alike, found_alike, picked_alike}
-use Rattle.twin_laws.proofs.Objects.{IsPlaced, variable_same, named, moved_same, moved_open, target_alike, placed_open, looked_up_alike, put_alike, put_cells_alike, cleared_cells_alike, left_scope_alike}
+use Rattle.twin_laws.proofs.Objects.{OneTable, IsPlaced, variable_same, named, moved_same, moved_open, target_alike, placed_open, looked_up_alike, put_alike, put_cells_alike, cleared_cells_alike, left_scope_alike}
 
 -- nothing is both
 pub apart : IsTrue false → ⊥
 apart h = absurd (cc)
 
-module _ (pairing : Pairing) (program program' : Program) (one : StandOverTheTable pairing program program') where
+module _ (pairing : Pairing) (program program' : Program) (one : OneTable pairing program program') where
   abbrev pub Opens : Value → Type 0
   Opens = PointsOpenly pairing program
 

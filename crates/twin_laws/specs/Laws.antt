@@ -7,12 +7,13 @@ use Rattle.rvt_tree.specs.Same.{ArePaired}
 use Rattle.c_meaning.specs.Runs.{run}
 use Rattle.c_meaning.specs.Promises.{Full, function_versions, loop_versions}
 use Rattle.c_meaning.specs.Twins.{IsClosed}
-use Rattle.twin_laws.specs.Tables.{StandOverTheTable}
+use Rattle.twin_laws.specs.Tables.{StandOverTheTable, HoldTheSame}
 use Rattle.twin_laws.specs.Touches.{TouchOnlyPaired, PointsOpenly}
 
--- a closed set of twins over one table
+-- a closed set of twins over one table, which name only paired objects and touch only such through pointers
 pub record AreTwinsUnder (pairing : Pairing) (program program' : Program) : Type 0 where
   pub stand : StandOverTheTable pairing program program'
+  pub contents : HoldTheSame pairing program program'
   pub closed : IsClosed pairing program program'
   pub touch : TouchOnlyPaired pairing program
 

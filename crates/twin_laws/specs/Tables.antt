@@ -38,10 +38,13 @@ abbrev pub SameContents : Option Object → Option Object → Type 0
 SameContents (Some a) (Some b) = a.constant ≡ true → SameNumbers a.initial b.initial
 SameContents _ _ = Unit {0}
 
--- The two programs stand over one table, and paired structs have the same cells. An object that is paired is paired with itself, and
--- then has the same contents in both if it is constant; a constant that changed is paired with none.
+-- what is paired is of the same contents in both if it is constant: a constant that changed is paired with none
+abbrev pub HoldTheSame : Pairing → Program → Program → Type 0
+HoldTheSame pairing program program' =
+    (number : ℕ) → ArePaired pairing.objects number number → SameContents (slice_get (objects_of program) number) (slice_get (objects_of program') number)
+
+-- the two programs stand over one table, whatever constants hold; an object is paired with itself alone, and paired structs have the same cells
 pub record StandOverTheTable (pairing : Pairing) (program program' : Program) : Type 0 where
   pub objects : (a b : ℕ) → ArePaired pairing.objects a b → a ≡ b
-  pub contents : (number : ℕ) → ArePaired pairing.objects number number → SameContents (slice_get (objects_of program) number) (slice_get (objects_of program') number)
   pub table : AreSameButForContents pairing program program' (objects_of program) (objects_of program')
   pub structs : (a b : ℕ) → ArePaired pairing.structs a b → struct_cells program a ≡ struct_cells program' b
