@@ -22,7 +22,7 @@ use Rattle.c_meaning.specs.Statements.{put, put_cells, cleared_cells, locals_wit
 use Rattle.c_meaning.specs.Runs.{zero_cells, is_owner, for_owned, opened, closed}
 use Rattle.c_meaning.specs.Outcomes.{Normally}
 use Rattle.c_meaning.specs.Twins.{SameType, struct_cells}
-use Rattle.twin_laws.specs.Tables.{SameButForContents, AreSameButForContents, SameNumbers, SameContents, HoldTheSame}
+use Rattle.twin_laws.specs.Tables.{SameButForContents, AreSameButForContents, SameNumber, SameNumbers, SameContents, HoldTheSame}
 use Rattle.twin_laws.specs.Touches.{is_addressable, TouchesPaired, PointsOpenly}
 use Rattle.twin_laws.proofs.Alike.{Anything, WhereOk, one_of, IsHeld, Alike, unless_alike}
 
@@ -202,25 +202,29 @@ module _ (pairing : Pairing) (program program' : Program) where
 
     -- ---- cells
 
+    number_same : (a b : Value) → SameNumber a b → a ≡ b
+    number_same (Num m) (Num n) h = ap Num h
+    number_same (Num m) Null h = absurd h
+    number_same (Num m) (At number cell) h = absurd h
+    number_same Null b h = absurd h
+    number_same (At number cell) b h = absurd h
+
+    number_open : (a b : Value) → SameNumber a b → Open a
+    number_open (Num m) b h = tt
+    number_open Null b h = absurd h
+    number_open (At number cell) b h = absurd h
+
     numbers_same : (cells cells' : List Value) → SameNumbers cells cells' → cells ≡ cells'
     numbers_same [] [] h = refl
-    numbers_same (Num a ∷ cells) (Num b ∷ cells') h = ap₂ (λ n rest. Num n ∷ rest) h.0 (numbers_same cells cells' h.1)
+    numbers_same (a ∷ cells) (b ∷ cells') h = ap₂ (λ v rest. v ∷ rest) (number_same a b h.0) (numbers_same cells cells' h.1)
     numbers_same [] (b ∷ cells') h = absurd h
-    numbers_same (Num a ∷ cells) [] h = absurd h
-    numbers_same (Num a ∷ cells) (Null ∷ cells') h = absurd h
-    numbers_same (Num a ∷ cells) (At number cell ∷ cells') h = absurd h
-    numbers_same (Null ∷ cells) cells' h = absurd h
-    numbers_same (At number cell ∷ cells) cells' h = absurd h
+    numbers_same (a ∷ cells) [] h = absurd h
 
     numbers_open : (cells cells' : List Value) → SameNumbers cells cells' → All Open cells
     numbers_open [] [] h = All-nil Open
-    numbers_open (Num a ∷ cells) (Num b ∷ cells') h = All-cons Open (Num a) cells tt (numbers_open cells cells' h.1)
+    numbers_open (a ∷ cells) (b ∷ cells') h = All-cons Open a cells (number_open a b h.0) (numbers_open cells cells' h.1)
     numbers_open [] (b ∷ cells') h = absurd h
-    numbers_open (Num a ∷ cells) [] h = absurd h
-    numbers_open (Num a ∷ cells) (Null ∷ cells') h = absurd h
-    numbers_open (Num a ∷ cells) (At number cell ∷ cells') h = absurd h
-    numbers_open (Null ∷ cells) cells' h = absurd h
-    numbers_open (At number cell ∷ cells) cells' h = absurd h
+    numbers_open (a ∷ cells) [] h = absurd h
 
     cells_in_same : (store : List Value) (first_one : ℕ) (a b : Option Object) → SameEntry a b → SameContents a b → cells_in store first_one a ≡ cells_in store first_one b
     cells_in_same store first_one None None h e = refl

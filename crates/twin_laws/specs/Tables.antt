@@ -27,10 +27,14 @@ AreSameButForContents pairing program program' (a ∷ objects) (b ∷ objects') 
     SameButForContents pairing program program' a b × AreSameButForContents pairing program program' objects objects'
 AreSameButForContents pairing program program' _ _ = ⊥
 
+abbrev pub SameNumber : Value → Value → Type 0
+SameNumber (Num a) (Num b) = a ≡ b
+SameNumber _ _ = ⊥
+
 -- the same numbers; a constant holds no pointer
 abbrev pub SameNumbers : List Value → List Value → Type 0
 SameNumbers [] [] = Unit {0}
-SameNumbers (Num a ∷ cells) (Num b ∷ cells') = (a ≡ b) × SameNumbers cells cells'
+SameNumbers (a ∷ cells) (b ∷ cells') = SameNumber a b × SameNumbers cells cells'
 SameNumbers _ _ = ⊥
 
 -- constants of the same contents, or no constants
