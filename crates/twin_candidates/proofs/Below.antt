@@ -1,6 +1,7 @@
 -- Lists of partners of which the first so many were looked at.
-use Rattle.std.proofs.Common.{◌≡◌, ◌↔◌, ℕ, zero, suc, ◌+◌, ◌<◌, ◌≤◌, List, [], ◌∷◌, ◌++◌, length, slice_get, Option, Some, None, ◌⊎◌, inl, inr, refl, sym, ap, ◌∙◌, subst, arith}
+use Rattle.std.proofs.Common.{◌≡◌, ◌↔◌, ℕ, zero, suc, ◌+◌, ◌<◌, ◌≤◌, List, [], ◌∷◌, ◌++◌, length, slice_get, All, Option, Some, None, ◌⊎◌, inl, inr, refl, sym, ap, ◌∙◌, subst, arith}
 use Rattle.std.proofs.lemmas.Bool.{cases_lt}
+use Rattle.std.proofs.lemmas.List.Elements.{All-nil, All-cons, All-head, All-tail}
 use Rattle.std.proofs.lemmas.Option.{slice_get_past, slice_get_within}
 use Rattle.rvt_tree.specs.Same.{ArePaired}
 use Rattle.twin_candidates.specs.Kept.{KeepsOnly, IsKept}
@@ -28,9 +29,9 @@ length_more : (xs : List (Option ℕ)) (y : Option ℕ) → length (xs ++ y ∷ 
 length_more [] y = refl
 length_more (x ∷ xs) y = let rest : length (xs ++ y ∷ []) ≡ length xs + 1 = length_more xs y in omega (arith, rest)
 
-pub kept_more : (Keeps : ℕ → ℕ → Type 0) (before after : List (Option ℕ)) (count : ℕ) (x y : Option ℕ) → slice_get before count ≡ Some x → IsKept (Keeps count) x y →
+pub kept_more : (Keeps : ℕ → ℕ → Type 0) (before after : List (Option ℕ)) (count : ℕ) (y : Option ℕ) → IsKept (Keeps count) before count y →
     KeptBelow Keeps before after count → KeptBelow Keeps before (after ++ y ∷ []) (count + 1)
-kept_more Keeps before after count x y there is h = record {
+kept_more Keeps before after count y is h = record {
   counted = length_more after y ∙ ap (λ n. n + 1) h.counted;
   kept = λ a b low. by a b (cases_lt a count) low;
 }
@@ -38,8 +39,7 @@ kept_more Keeps before after count x y there is h = record {
     at_last : (b : ℕ) → ArePaired (after ++ y ∷ []) count b ↔ (ArePaired before count b × Keeps count b)
     at_last b =
         let now : slice_get (after ++ y ∷ []) count ≡ Some y = subst (λ n. slice_get (after ++ y ∷ []) n ≡ Some y) h.counted (last after y) in
-        (λ paired. let both = (is b).0 (inside y (Some b) (sym now ∙ paired)) in (there ∙ ap Some both.0, both.1),
-        λ both. now ∙ ap Some ((is b).1 (inside x (Some b) (sym there ∙ both.0), both.1)))
+        (λ paired. (is b).0 (inside y (Some b) (sym now ∙ paired)), λ both. now ∙ ap Some ((is b).1 both))
 
     by : (a b : ℕ) → (a < count) ⊎ (count ≤ a) → a < count + 1 → ArePaired (after ++ y ∷ []) a b ↔ (ArePaired before a b × Keeps a b)
     by a b (inl less) low =
@@ -60,3 +60,19 @@ kept_all Keeps before after count whole h a b = by (cases_lt a count)
     by (inr more) =
         let counted : length after ≡ count = h.counted in
         (λ paired. absurd (absent after (omega (arith, more, counted)) paired), λ both. absurd (absent before (omega (arith, whole, more)) both.0))
+
+-- ---- all of a list, and what is left of it
+
+module _ {X : Type 0} (P : X → Type 0) (Whole : Type 0) (left rest : List X) where
+  pub all_step : (x : X) → left ≡ x ∷ rest → P x → (All P left ↔ Whole) → (All P rest ↔ Whole)
+  all_step x e is h = (λ all. h.0 (subst (All P) (sym e) (All-cons P x rest is all)), λ whole. All-tail P x rest (subst (All P) e (h.1 whole)))
+
+  pub all_fail : (x : X) → left ≡ x ∷ rest → (P x → ⊥) → (All P left ↔ Whole) → Whole → ⊥
+  all_fail x e other h whole = other (All-head P x rest (subst (All P) e (h.1 whole)))
+
+  pub all_done : left ≡ [] → (All P left ↔ Whole) → Whole
+  all_done e h = h.0 (subst (All P) (sym e) (All-nil P))
+
+pub nil_of : {A : Type 0} (xs : List A) → length xs ≡ 0 → xs ≡ []
+nil_of [] e = refl
+nil_of (x ∷ xs) e = absurd (omega (arith, e))

@@ -6,6 +6,6 @@ use Rattle.rvt_tree.specs.Same.{ArePaired}
 abbrev pub KeepsOnly : (ℕ → ℕ → Type 0) → List (Option ℕ) → List (Option ℕ) → Type 0
 KeepsOnly Keeps before after = (a b : ℕ) → ArePaired after a b ↔ (ArePaired before a b × Keeps a b)
 
--- so is a partner
-abbrev pub IsKept : (ℕ → Type 0) → Option ℕ → Option ℕ → Type 0
-IsKept Keeps before after = (b : ℕ) → (after ≡ Some b) ↔ ((before ≡ Some b) × Keeps b)
+-- so is the partner of the one of this number
+abbrev pub IsKept : (ℕ → Type 0) → List (Option ℕ) → ℕ → Option ℕ → Type 0
+IsKept Keeps before number after = (b : ℕ) → (after ≡ Some b) ↔ (ArePaired before number b × Keeps b)

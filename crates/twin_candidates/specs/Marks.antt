@@ -1,5 +1,5 @@
 -- Types of pointees that are marked.
-use Rattle.std.specs.Prelude.{◌≡◌, ◌↔◌, ℕ, ◌+◌, ◌*◌, All, List, [], ◌∷◌, get_or, Bool, true, false, if◌then◌else◌, ◌||◌, Option, Some, None, option_map}
+use Rattle.std.specs.Prelude.{◌≡◌, ◌↔◌, ℕ, ◌+◌, ◌*◌, ◌<◌, All, slice_get, List, [], ◌∷◌, get_or, Bool, true, false, if◌then◌else◌, ◌||◌, Option, Some, None, option_map}
 use Rattle.rvt_num.specs.declared.kinds.Kind.{Kind}
 use Rattle.rvt_num.specs.Kinds.{width, is_signed}
 use Rattle.rvt_tree.specs.declared.types.Pointee.{Pointee}
@@ -11,8 +11,10 @@ use Rattle.rvt_tree.specs.declared.programs.Program.{Program}
 use Rattle.rvt_tree.specs.declared.programs.Function.{Function}
 use Rattle.rvt_tree.specs.Views.{stmt_view}
 use Rattle.c_types.specs.Layout.{Begin, Plan, is_of_pointee}
+use Rattle.c_meaning.specs.Stores.{objects_of, begins_at}
+use Rattle.rvt_tree.specs.Same.{ArePaired}
 use Rattle.body_pointees.specs.Pointees.{body_pointees}
-use Rattle.twin_laws.specs.Touches.{TouchesPaired}
+use Rattle.twin_laws.specs.Touches.{is_addressable, TouchesPaired}
 use Rattle.twin_candidates.specs.declared.marks.Marks.{Marks}
 
 -- kinds of one width and sign have one place
@@ -43,7 +45,16 @@ begins_somewhere pointee (Some plan) = is_among pointee plan.starts
 abbrev pub objects_paired : List (Option ℕ) → Pairing
 objects_paired objects = record { functions = []; objects = objects; structs = [] }
 
--- a type is marked where a pointer to it may touch an object that isn't paired
+-- a pointer to the type touches paired objects alone among the first so many
+abbrev pub TouchesBelow : Program → List (Option ℕ) → ℕ → Pointee → Type 0
+TouchesBelow program objects count pointee =
+    (number cell : ℕ) → number < count → is_addressable (slice_get (objects_of program) number) ≡ true → begins_at program pointee number cell ≡ true → ArePaired objects number number
+
+-- a type is marked where a pointer to it may touch an object that isn't paired, among the first so many
+abbrev pub MarksBelow : Program → List (Option ℕ) → Marks → ℕ → Type 0
+MarksBelow program objects marks count = (pointee : Pointee) → (marked marks pointee ≡ false) ↔ TouchesBelow program objects count pointee
+
+-- the same among all
 abbrev pub MarksChanged : Program → List (Option ℕ) → Marks → Type 0
 MarksChanged program objects marks = (pointee : Pointee) → (marked marks pointee ≡ false) ↔ TouchesPaired (objects_paired objects) program pointee
 

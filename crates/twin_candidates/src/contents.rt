@@ -1,7 +1,7 @@
 //! Objects without the constants whose contents changed.
 
-ghost use Rattle.std.specs.Prelude.{◌≡◌, ◌↔◌, ◌∷◌, [], IsTrue, true, slice_get, IfOk};
-ghost use Rattle.twin_laws.specs.Tables.{SameNumbers, SameContents};
+ghost use Rattle.std.specs.Prelude.{◌≡◌, ◌↔◌, IsTrue, true, slice_get, IfOk};
+ghost use Rattle.twin_laws.specs.Tables.{SameNumber, SameNumbers, SameContents};
 ghost use Rattle.twin_candidates.specs.Kept.{IsKept, KeepsOnly};
 
 use rvt_num::Value;
@@ -19,28 +19,29 @@ pub fn unchanged(
 {
     let mut kept = Vec::new(alloc);
     for number in 0..partners.len() {
-        kept.push(kept_object(partners[number], old, number, new))?;
+        let partner = kept_object(partners, number, old, new);
+        kept.push(partner)?;
     }
     Ok(kept)
 }
 
 fn kept_object(
-    partner: Option<u32>,
-    old: &[Object],
+    partners: &[Option<u32>],
     number: usize,
+    old: &[Object],
     new: &[Object],
 ) -> Option<u32>
-    ensures { IsKept (λ b. SameContents (slice_get old.now number) (slice_get new.now b)) partner result }
+    ensures { IsKept (λ b. SameContents (slice_get old.now number) (slice_get new.now b)) partners.now number result }
 {
-    match partner {
-        None => None,
-        Some(other) => {
-            if hold_the_same(old, number, new, other as usize) {
-                Some(other)
+    match partners.get(number) {
+        Some(Some(other)) => {
+            if hold_the_same(old, number, new, *other as usize) {
+                Some(*other)
             } else {
                 None
             }
         }
+        _ => None,
     }
 }
 
@@ -86,10 +87,10 @@ fn same_numbers(a: &[Value], b: &[Value]) -> bool
 }
 
 fn is_same_number(a: Value, b: Value) -> bool
-    ensures { IsTrue result ↔ SameNumbers (a ∷ []) (b ∷ []) }
+    ensures { IsTrue result ↔ SameNumber a b }
 {
-    match (a, b) {
-        (Value::Num(m), Value::Num(n)) => m == n,
+    match a {
+        Value::Num(_) => a == b,
         _ => false,
     }
 }

@@ -7,20 +7,21 @@ ghost use Rattle.twin_candidates.specs.Marks.{marked, AvoidsMarked};
 use crate::marks::Marks;
 use body_pointees::pointees_in;
 use rvt_tree::{Function, Pointee};
+use sqlite_items::Items;
 use std::alloc::{AllocError, Global};
 
 /// The partners of functions, without those of functions that dereference a pointer to a marked type.
 pub fn avoiding(
     alloc: Global,
     partners: &[Option<u32>],
-    functions: &[Function],
+    functions: &Items<Function>,
     marks: &Marks,
 ) -> Result<Vec<Option<u32>>, AllocError>
     ensures { IfOk result (λ kept. KeepsOnly (λ f g. AvoidsMarked marks.now (slice_get functions.now f)) partners.now kept.items) }
 {
     let mut kept = Vec::new(alloc);
     for number in 0..partners.len() {
-        let partner = kept_function(alloc, partners[number], functions, number, marks)?;
+        let partner = kept_function(alloc, partners, number, functions, marks)?;
         kept.push(partner)?;
     }
     Ok(kept)
@@ -28,25 +29,39 @@ pub fn avoiding(
 
 fn kept_function(
     alloc: Global,
-    partner: Option<u32>,
-    functions: &[Function],
+    partners: &[Option<u32>],
     number: usize,
+    functions: &Items<Function>,
     marks: &Marks,
 ) -> Result<Option<u32>, AllocError>
-    ensures { IfOk result (λ kept. IsKept (λ g. AvoidsMarked marks.now (slice_get functions.now number)) partner kept) }
+    ensures { IfOk result (λ kept. IsKept (λ g. AvoidsMarked marks.now (slice_get functions.now number)) partners.now number kept) }
 {
-    if partner.is_none() {
-        return Ok(None);
+    match partners.get(number) {
+        Some(Some(other)) => {
+            let avoids = avoids(alloc, functions, number, marks)?;
+            if avoids {
+                Ok(Some(*other))
+            } else {
+                Ok(None)
+            }
+        }
+        _ => Ok(None),
     }
-    let avoids = match functions.get(number) {
-        Some(function) => avoids_marked(alloc, function, marks)?,
-        None => true,
+}
+
+fn avoids(
+    alloc: Global,
+    functions: &Items<Function>,
+    number: usize,
+    marks: &Marks,
+) -> Result<bool, AllocError>
+    ensures { IfOk result (λ yes. IsTrue yes ↔ AvoidsMarked marks.now (slice_get functions.now number)) }
+{
+    let Some(function) = functions.get(number) else {
+        return Ok(true)
     };
-    if avoids {
-        Ok(partner)
-    } else {
-        Ok(None)
-    }
+    let yes = avoids_marked(alloc, function, marks)?;
+    Ok(yes)
 }
 
 fn avoids_marked(alloc: Global, function: &Function, marks: &Marks) -> Result<bool, AllocError>
@@ -60,10 +75,12 @@ fn avoids_marked(alloc: Global, function: &Function, marks: &Marks) -> Result<bo
 fn are_unmarked(pointees: &[Pointee], marks: &Marks) -> bool
     ensures { IsTrue result ↔ All (λ pointee. marked marks.now pointee ≡ false) pointees.now }
 {
-    for pointee in pointees {
-        if marks.is_marked(*pointee) {
+    let mut left = pointees;
+    'pointees: while let Some((first, rest)) = left.split_first() {
+        if marks.is_marked(*first) {
             return false;
         }
+        left = rest;
     }
     true
 }

@@ -30,7 +30,7 @@ pub fn candidates(
     let functions = avoiding(
         alloc,
         pairing.functions.as_slice(),
-        old.functions.as_slice(),
+        &old.functions,
         &marks,
     )?;
     let structs = Items::from_slice(alloc, pairing.structs.as_slice())?;

@@ -1,15 +1,15 @@
 //! The types of which a value begins in an object that isn't paired.
 
-ghost use Rattle.std.specs.Prelude.{◌≡◌, ◌↔◌, ◌||◌, IsTrue, IfOk, OnOk};
+ghost use Rattle.std.specs.Prelude.{◌≡◌, ◌↔◌, ◌||◌, ◌+◌, IsTrue, IfOk, OnOk};
 ghost use Rattle.rvt_tree.specs.Same.{ArePaired};
 ghost use Rattle.rvt_tree.specs.declared.types.Pointee.{Pointee as PointeeType};
 ghost use Rattle.c_types.specs.Layout.{plan_of, is_of_pointee, shape_of, starts_of};
-ghost use Rattle.twin_candidates.specs.Marks.{marked, pointee_of, is_among, begins_somewhere, MarksChanged};
+ghost use Rattle.twin_candidates.specs.Marks.{marked, pointee_of, is_among, begins_somewhere, MarksBelow, MarksChanged};
 
 use crate::marks::Marks;
 use c_layout::{TypeFault, layout};
 use c_types::Cells;
-use rvt_tree::{CType, Object, Pointee, Program, Structs};
+use rvt_tree::{CType, Pointee, Program, Structs};
 use std::alloc::{AllocError, Global};
 
 /// Marks the types of which a value begins in an addressable object that isn't paired with itself.
@@ -21,15 +21,33 @@ pub fn changed_types(
 ) -> Result<Marks, AllocError>
     ensures { IfOk result (λ marks. MarksChanged program.now partners.now marks) }
 {
-    let objects = program.table.objects.as_slice();
     let mut marks = Marks::new(alloc);
-    for number in 0..objects.len() {
-        let object = &objects[number];
-        if object.addressable && !is_own_partner(partners, number) {
-            mark_type(alloc, &mut marks, &object.ty, &program.structs)?;
-        }
+    for number in 0..program.table.objects.len() {
+        mark_object(alloc, &mut marks, program, partners, number)?;
     }
     Ok(marks)
+}
+
+fn mark_object(
+    alloc: Global,
+    marks: &mut Marks,
+    program: &Program,
+    partners: &[Option<u32>],
+    number: usize,
+) -> Result<(), AllocError>
+    ensures { OnOk result (MarksBelow program.now partners.now marks.old number → MarksBelow program.now partners.now marks.new (number + 1)) }
+{
+    let Some(object) = program.table.objects.get(number) else {
+        return Ok(())
+    };
+    if !object.addressable {
+        return Ok(());
+    }
+    if is_own_partner(partners, number) {
+        return Ok(());
+    }
+    mark_type(alloc, marks, &object.ty, &program.structs)?;
+    Ok(())
 }
 
 fn is_own_partner(partners: &[Option<u32>], number: usize) -> bool

@@ -1,4 +1,4 @@
-use Rattle.twin_candidates.proofs.Marked.{MarksBelow}
+use Rattle.twin_candidates.specs.Marks.{MarksBelow}
 use Rattle.twin_candidates.proofs.types.changed_types.Given as goal
 
 abbrev pub invariant-loop-number : goal.invariant-loop-number
