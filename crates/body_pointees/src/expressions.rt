@@ -125,10 +125,7 @@ pub fn collect_from_expression(e: &Expr, into: &mut Vec<Pointee>) -> Result<(), 
 }
 
 #[cycle(collect_from_expression)]
-pub fn collect_from_arguments(
-    arguments: &Exprs,
-    into: &mut Vec<Pointee>,
-) -> Result<(), AllocError>
+pub fn collect_from_arguments(arguments: &Exprs, into: &mut Vec<Pointee>) -> Result<(), AllocError>
     ensures { IfOk result (λ _. into.new.items ≡ into.old.items ++ arguments_pointees (exprs_view arguments.now)) }
 {
     let mut rest = arguments;

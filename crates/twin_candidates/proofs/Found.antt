@@ -17,9 +17,10 @@ use Rattle.twin_candidates.specs.Marks.{marked, MarksChanged, AvoidsMarked}
 
 avoid_touch : (program : Program) (found : Pairing) (marks : Marks) → MarksChanged program found.objects marks → (function : Option Function) → AvoidsMarked marks function ↔ FunctionTouchesPaired found program function
 avoid_touch program found marks h None = (λ _. tt, λ _. tt)
-avoid_touch program found marks h (Some function) =
-    (All-weaker (λ (pointee : Pointee). marked marks pointee ≡ false) (TouchesPaired found program) (λ pointee none. (h pointee).0 none) (body_pointees (option_map stmt_view function.body)),
-    All-weaker (TouchesPaired found program) (λ (pointee : Pointee). marked marks pointee ≡ false) (λ pointee touches. (h pointee).1 touches) (body_pointees (option_map stmt_view function.body)))
+avoid_touch program found marks h (Some function) = (
+  All-weaker (λ (pointee : Pointee). marked marks pointee ≡ false) (TouchesPaired found program) (λ pointee none. (h pointee).0 none) (body_pointees (option_map stmt_view function.body)),
+  All-weaker (TouchesPaired found program) (λ (pointee : Pointee). marked marks pointee ≡ false) (λ pointee touches. (h pointee).1 touches) (body_pointees (option_map stmt_view function.body)),
+)
 
 pub are_found : (old new : Program) (pairing found : Pairing) (partners objects : List (Option ℕ)) (os os' : List Object) (marks : Marks) (before functions : List (Option ℕ)) →
     partners ≡ pairing.objects → os ≡ old.table.objects → os' ≡ new.table.objects → KeepsOnly (λ a b. SameContents (slice_get os a) (slice_get os' b)) partners objects →

@@ -52,9 +52,11 @@ somewhere pointee [] h = (0, h)
 somewhere pointee (start ∷ starts) h = by (somewhere pointee starts) (one_of_two _ _ h)
   where
     by : (is_among pointee starts ≡ true → (cell : ℕ) × (begins_in pointee cell starts ≡ true)) → (is_of_pointee pointee start.what ≡ true) ⊎ (is_among pointee starts ≡ true) → (cell : ℕ) × (begins_in pointee cell (start ∷ starts) ≡ true)
-    by later_cell (inl here) =
-        (start.cell, or_left (nat_eq start.cell start.cell && is_of_pointee pointee start.what) (begins_in pointee start.cell starts)
-        (ap₂ (λ a b. a && b) (same_cell start.cell) here))
+    by later_cell (inl here) = (
+      start.cell,
+      or_left (nat_eq start.cell start.cell && is_of_pointee pointee start.what) (begins_in pointee start.cell starts)
+          (ap₂ (λ a b. a && b) (same_cell start.cell) here),
+    )
     by later_cell (inr later) =
         let rest = later_cell later in
         (rest.0, or_right (nat_eq rest.0 start.cell && is_of_pointee pointee start.what) (begins_in pointee rest.0 starts) rest.1)

@@ -51,9 +51,7 @@ fn hold_the_same(old: &[Object], number: usize, new: &[Object], other: usize) ->
     let Some(a) = old.get(number) else {
         return true
     };
-    let Some(b) = new.get(other) else {
-        return true
-    };
+    let Some(b) = new.get(other) else { return true };
     same_contents(a, b)
 }
 

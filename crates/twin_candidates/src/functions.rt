@@ -39,11 +39,7 @@ fn kept_function(
     match partners.get(number) {
         Some(Some(other)) => {
             let avoids = avoids(alloc, functions, number, marks)?;
-            if avoids {
-                Ok(Some(*other))
-            } else {
-                Ok(None)
-            }
+            if avoids { Ok(Some(*other)) } else { Ok(None) }
         }
         _ => Ok(None),
     }

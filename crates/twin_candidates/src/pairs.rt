@@ -27,12 +27,7 @@ pub fn candidates(
         new.table.objects.as_slice(),
     )?;
     let marks = changed_types(alloc, old, objects.as_slice())?;
-    let functions = avoiding(
-        alloc,
-        pairing.functions.as_slice(),
-        &old.functions,
-        &marks,
-    )?;
+    let functions = avoiding(alloc, pairing.functions.as_slice(), &old.functions, &marks)?;
     let structs = Items::from_slice(alloc, pairing.structs.as_slice())?;
     Ok(Pairing {
         functions: Items::from_vec(functions),

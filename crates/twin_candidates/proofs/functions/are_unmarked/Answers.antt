@@ -6,10 +6,11 @@ use Rattle.twin_candidates.proofs.functions.are_unmarked.Goals as goal
 
 pub returns-then-is_marked : goal.returns-then-is_marked
 returns-then-is_marked c =
-    let Is : Pointee → Type 0 = λ pointee. marked c.args.marks.now pointee ≡ false in
-    (λ no. absurd (let bad : false ≡ true = no in cc),
-    λ whole. absurd (all_fail Is (All Is c.args.pointees.now) c.pointees.left.now c.in-Some.rest.now c.in-Some.first.now c.in-Some.ensures.cases.0
-      (λ unmarked. absurd (let bad : true ≡ false = sym c.if-is_marked.true ∙ c.is_marked.ensures ∙ unmarked in cc)) c.pointees.invariant whole))
+    let Is : Pointee → Type 0 = λ pointee. marked c.args.marks.now pointee ≡ false in (
+      λ no. absurd (let bad : false ≡ true = no in cc),
+      λ whole. absurd (all_fail Is (All Is c.args.pointees.now) c.pointees.left.now c.in-Some.rest.now c.in-Some.first.now c.in-Some.ensures.cases.0
+          (λ unmarked. absurd (let bad : true ≡ false = sym c.if-is_marked.true ∙ c.is_marked.ensures ∙ unmarked in cc)) c.pointees.invariant whole),
+    )
 
 pub pointees-preserved : goal.pointees-preserved
 pointees-preserved c =
