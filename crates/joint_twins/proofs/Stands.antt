@@ -1,5 +1,5 @@
 -- Programs that stand over one table stand over it where less is paired.
-use Rattle.std.proofs.Common.{◌≡◌, ℕ, All, List, [], ◌∷◌, slice_get, Option, Some, None, option_map, sym, ◌∙◌, subst}
+use Rattle.std.proofs.Common.{◌≡◌, ℕ, List, [], ◌∷◌, slice_get, Option, Some, None, option_map, sym, ◌∙◌, subst}
 use Rattle.std.proofs.lemmas.List.Elements.{All-weaker}
 use Rattle.rvt_tree.specs.declared.types.Pointee.{Pointee}
 use Rattle.rvt_tree.specs.declared.types.Pointee.TheVariants as P
