@@ -1,5 +1,5 @@
 -- The pairs that are left are the candidates.
-use Rattle.std.proofs.Common.{◌≡◌, ◌↔◌, ℕ, All, List, slice_get, false, Option, Some, None, option_map, sym, subst}
+use Rattle.std.proofs.Common.{◌≡◌, ◌↔◌, ℕ, List, slice_get, false, Option, Some, None, option_map, sym, subst}
 use Rattle.std.proofs.lemmas.List.Elements.{All-weaker}
 use Rattle.rvt_tree.specs.declared.types.Pointee.{Pointee}
 use Rattle.rvt_tree.specs.declared.pairings.Pairing.{Pairing}

@@ -1,5 +1,5 @@
 -- Marks of the types of which values begin in objects that aren't paired.
-use Rattle.std.proofs.Common.{◌≡◌, ◌↔◌, ℕ, zero, suc, ◌+◌, ◌<◌, ◌≤◌, List, [], ◌∷◌, length, slice_get, Bool, true, false, ◌&&◌, ◌||◌, nat_eq, Option, Some, None, ◌⊎◌, inl, inr, refl, sym, ap, ap₂, ◌∙◌, subst, arith}
+use Rattle.std.proofs.Common.{◌≡◌, ℕ, ◌+◌, ◌<◌, ◌≤◌, List, [], ◌∷◌, length, slice_get, Bool, true, false, ◌&&◌, ◌||◌, nat_eq, Option, Some, None, ◌⊎◌, inl, inr, refl, sym, ap, ap₂, ◌∙◌, subst, arith}
 use Rattle.std.proofs.lemmas.Bool.{cases_lt}
 use Rattle.std.proofs.lemmas.Bool.Decides.{eqb_tells}
 use Rattle.std.proofs.lemmas.Option.{slice_get_past}
@@ -9,9 +9,9 @@ use Rattle.rvt_tree.specs.declared.programs.Program.{Program}
 use Rattle.rvt_tree.specs.Same.{ArePaired}
 use Rattle.c_types.specs.Layout.{Begin, Plan, plan_of, is_of_pointee, begins_in}
 use Rattle.c_meaning.specs.Stores.{objects_of, plan_of_object, begins_in_plan, begins_at}
-use Rattle.twin_laws.specs.Touches.{is_addressable, TouchesPaired}
+use Rattle.twin_laws.specs.Touches.{is_addressable}
 use Rattle.twin_candidates.specs.declared.marks.Marks.{Marks}
-use Rattle.twin_candidates.specs.Marks.{marked, is_among, begins_somewhere, objects_paired, TouchesBelow, MarksBelow, MarksChanged}
+use Rattle.twin_candidates.specs.Marks.{marked, is_among, begins_somewhere, TouchesBelow, MarksBelow, MarksChanged}
 
 -- ---- what begins somewhere
 
