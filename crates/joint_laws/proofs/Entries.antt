@@ -8,7 +8,8 @@ use Rattle.rvt_tree.specs.declared.programs.Program.{Program}
 use Rattle.rvt_tree.specs.Same.{ArePaired}
 use Rattle.c_types.specs.Layout.{Shape, AWord, APointer, AnArray, AStruct, shape_of, Plan, plan_of, plan_of_struct}
 use Rattle.c_meaning.specs.Runs.{is_owner}
-use Rattle.c_meaning.specs.Twins.{SameObject, SameObjects, StandOverOneTable, struct_cells}
+use Rattle.c_meaning.specs.Twins.{struct_cells}
+use Rattle.twin_laws.specs.Tables.{SameButForContents, AreSameButForContents, StandOverTheTable}
 use Rattle.version_map.specs.declared.map.Added.{Added}
 use Rattle.joint_objects.specs.declared.objects.Origin.{Origin}
 use Rattle.joint_objects.specs.declared.objects.Origin.TheVariants.{Both, Old, New}
@@ -107,7 +108,6 @@ module _ (old new : Program) (functions : Partners) (count : ℕ) (structs_mutua
   pub record PartsAlike (u v : ObjectParts) : Type 0 where
     pub constant : u.constant ≡ v.constant
     pub number : length u.initial ≡ length v.initial
-    pub contents : u.constant ≡ true → u.initial ≡ v.initial
     pub type : TypeAlike pairs both both' u.shape v.shape
     pub owner : (f g : ℕ) → ArePaired functions.of_old f g → is_owner f u.owner ≡ is_owner g v.owner
 
@@ -134,7 +134,6 @@ module _ (old new : Program) (functions : Partners) (count : ℕ) (structs_mutua
   in_both t t' a b x y h k one = record {
     constant = one.constant;
     number = one.count;
-    contents = one.contents;
     type =
         same_alike pairs (equal_structs old new).of_old both both' (λ i j p _ _. equal_paired (length new.structs.list) (equal_structs old new) i j p) (file_pairing (equal_structs old new) functions) refl
         (shape_of x.ty) (shape_of y.ty) one.type (old_holds a x h) (new_holds b y k);
@@ -145,7 +144,6 @@ module _ (old new : Program) (functions : Partners) (count : ℕ) (structs_mutua
   in_old a x h = record {
     constant = refl;
     number = refl;
-    contents = λ _. refl;
     type = there_alike pairs (number_across (view' old new functions count)) (length old.structs.list) both both' there (shape_of x.ty) (numbered.objects a x h);
     owner = old_owner functions turning x.owner;
   }
@@ -154,7 +152,6 @@ module _ (old new : Program) (functions : Partners) (count : ℕ) (structs_mutua
   in_new b y h = record {
     constant = refl;
     number = refl;
-    contents = λ _. refl;
     type = here_alike pairs (number_across (view old new functions count)) (length new.structs.list) both both' here (shape_of y.ty) (numbered'.objects b y h);
     owner = new_owner functions turning y.owner;
   }
@@ -182,11 +179,10 @@ module _ (old new : Program) (functions : Partners) (count : ℕ) (structs_mutua
 
   extra_alike : (element : Element) → IsElement old new (equal_structs old new) functions element →
       PartsAlike (extra_array (view old new functions count) element) (extra_array (view' old new functions count) (element_turned element))
-  extra_alike (e.Word kind) h = record { constant = refl; number = refl; contents = λ _. refl; type = (refl, refl); owner = λ f g p. refl }
+  extra_alike (e.Word kind) h = record { constant = refl; number = refl; type = (refl, refl); owner = λ f g p. refl }
   extra_alike (e.Struct (Both a b)) h = record {
     constant = refl;
     number = ap (λ cells. length (repeated_cells 8 cells)) (equal_cells old new functions count structs_mutual numbered numbered' a b h);
-    contents = λ no. absurd (let bad : false ≡ true = no in cc);
     type = (
       (
         equal_paired (length new.structs.list) (equal_structs old new) a b h,
@@ -200,21 +196,19 @@ module _ (old new : Program) (functions : Partners) (count : ℕ) (structs_mutua
   extra_alike (e.Struct (Old a)) h = record {
     constant = refl;
     number = refl;
-    contents = λ _. refl;
     type = (there a (old_struct a h), refl);
     owner = λ f g p. refl;
   }
   extra_alike (e.Struct (New b)) h = record {
     constant = refl;
     number = refl;
-    contents = λ _. refl;
     type = (here b (new_struct b h), refl);
     owner = λ f g p. refl;
   }
 
   mapped_alike : (added : Option Added) → PartsAlike (mapped_array added) (mapped_array added)
-  mapped_alike None = record { constant = refl; number = refl; contents = λ _. refl; type = refl; owner = λ f g p. refl }
-  mapped_alike (Some added) = record { constant = refl; number = refl; contents = λ _. refl; type = (refl, refl); owner = λ f g p. refl }
+  mapped_alike None = record { constant = refl; number = refl; type = refl; owner = λ f g p. refl }
+  mapped_alike (Some added) = record { constant = refl; number = refl; type = (refl, refl); owner = λ f g p. refl }
 
   entry_alike : (added : List Added) (object : JointObject) → IsOfFiles old new (equal_structs old new) functions object →
       PartsAlike (joint_object (view old new functions count) added object) (joint_object (view' old new functions count) added (turned object))
@@ -229,11 +223,10 @@ module _ (old new : Program) (functions : Partners) (count : ℕ) (structs_mutua
     alike : (a b : ℕ) → ArePaired pairs.structs a b → StructsAlike pairs program.structs.list program'.structs.list a b
     alike = pairs_alike old new functions count structs_mutual numbered numbered' program program' is_old is_new
 
-    same_object : (o o' : Object) → PartsAlike (object_parts o) (object_parts o') → SameObject pairs program program' o o'
+    same_object : (o o' : Object) → PartsAlike (object_parts o) (object_parts o') → SameButForContents pairs program program' o o'
     same_object o o' h = record {
       constant = h.constant;
       count = h.number;
-      contents = h.contents;
       begins = λ k k' cell p.
           plans_tell pairs (one_to_one old new functions count structs_mutual) k k' cell (plan_of program.structs o.ty) (plan_of program'.structs o'.ty) p
           (type_plans pairs program.structs program'.structs alike o.ty o'.ty
@@ -244,7 +237,7 @@ module _ (old new : Program) (functions : Partners) (count : ℕ) (structs_mutua
 
     same_objects : (added : List Added) (table : List JointObject) → AreOfFiles old new (equal_structs old new) functions table → (os os' : List Object) →
         map object_parts os ≡ map (joint_object (view old new functions count) added) table → map object_parts os' ≡ map (joint_object (view' old new functions count) added) (table_turned table) →
-        SameObjects pairs program program' os os'
+        AreSameButForContents pairs program program' os os'
     same_objects added [] h [] [] e e' = tt
     same_objects added [] h (o ∷ os) os' e e' = absurd (let no : ◌≡◌ {A = List ObjectParts} (object_parts o ∷ map object_parts os) [] = e in cc)
     same_objects added [] h [] (o' ∷ os') e e' = absurd (let no : ◌≡◌ {A = List ObjectParts} (object_parts o' ∷ map object_parts os') [] = e' in cc)
@@ -273,7 +266,7 @@ module _ (old new : Program) (functions : Partners) (count : ℕ) (structs_mutua
     pub stand : (added : List Added) (table : List JointObject) → AreOfFiles old new (equal_structs old new) functions table →
         map object_parts program.table.objects ≡ map (joint_object (view old new functions count) added) table →
         map object_parts program'.table.objects ≡ map (joint_object (view' old new functions count) added) (table_turned table) →
-        StandOverOneTable pairs program program'
+        StandOverTheTable pairs program program'
     stand added table h e e' = record {
       objects = λ a b p. pairs_itself count a b p;
       table = same_objects added table h program.table.objects program'.table.objects e e';

@@ -1,7 +1,7 @@
--- The joint programs of two files stand over one table, so that twins in them are fully equivalent.
+-- The joint programs of two files stand over one table.
 use Rattle.std.specs.Prelude.{◌≡◌, List, length}
 use Rattle.rvt_tree.specs.declared.programs.Program.{Program}
-use Rattle.c_meaning.specs.Twins.{StandOverOneTable}
+use Rattle.twin_laws.specs.Tables.{StandOverTheTable}
 use Rattle.version_map.specs.Maps.{Entries}
 use Rattle.joint_objects.specs.declared.objects.JointObject.{JointObject}
 use Rattle.joint_objects.specs.Sides.{Partners}
@@ -23,4 +23,4 @@ abbrev pub JointProgramsStand : Type 0
 JointProgramsStand =
     (old new : Program) (functions : Partners) (said : Entries) → AreJoinable old new functions (table_of_old old new functions said) → (program program' : Program) →
     program_parts program ≡ joint_old old new functions said → program_parts program' ≡ joint_new old new functions said →
-    StandOverOneTable (joint_pairing old new functions (length (table_of_old old new functions said))) program program'
+    StandOverTheTable (joint_pairing old new functions (length (table_of_old old new functions said))) program program'

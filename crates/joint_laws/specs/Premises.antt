@@ -1,5 +1,5 @@
 -- What is asked of two files so that their joint programs stand over one table.
-use Rattle.std.specs.Prelude.{◌≡◌, ◌<◌, ◌↔◌, ℕ, List, [], ◌∷◌, map, length, slice_get, true, Option, Some, None}
+use Rattle.std.specs.Prelude.{◌≡◌, ◌<◌, ◌↔◌, ℕ, List, [], ◌∷◌, map, length, slice_get, Option, Some, None}
 use Rattle.rvt_tree.specs.declared.programs.StructDef.{StructDef}
 use Rattle.rvt_tree.specs.declared.programs.Program.{Program}
 use Rattle.rvt_tree.specs.declared.programs.Object.{Object}
@@ -52,12 +52,11 @@ HavePartnersAsOwners functions _ _ = ⊥
 
 -- ---- the joint table
 
--- an object of the table that both files have: of one type and number of cells, and `const` in both with one content or in neither; its owners are partners
+-- an object of the table that both files have: of one type and number of cells, and `const` in both or in neither, whatever it holds; its owners are partners
 pub record IsOneObject (pairing : Pairing) (a b : Object) : Type 0 where
   pub type : SameType pairing a.ty b.ty
   pub constant : a.constant ≡ b.constant
   pub count : length a.initial ≡ length b.initial
-  pub contents : a.constant ≡ true → a.initial ≡ b.initial
   pub owner : HavePartnersAsOwners pairing.functions a.owner b.owner
 
 abbrev pub IsThere : List Object → ℕ → Type 0

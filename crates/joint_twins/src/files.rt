@@ -15,8 +15,7 @@ use sqlite_items::Items;
 use std::alloc::{AllocError, Global};
 use version_map::Map;
 
-/// Whether the programs of two files over their joint table stand over one table. It isn't so where a constant that both
-/// have was changed.
+/// Whether the programs of two files over their joint table stand over one table, whatever their constants hold.
 pub fn are_joinable(
     alloc: Global,
     old: &Program,

@@ -5,7 +5,6 @@ ghost use Rattle.joint_laws.specs.Premises as spec;
 ghost use Rattle.joint_twins.specs.Files.{structs_of, functions_of, AreOneObject};
 
 use joint_objects::{Element, JointObject, Origin};
-use rvt_num::Value;
 use rvt_same::are_paired;
 use rvt_tree::{Object, Pairing, Program};
 use twin_check::same_type;
@@ -120,30 +119,7 @@ fn is_one_object(pairing: &Pairing, a: &Object, b: &Object) -> bool
     if a.initial.len() != b.initial.len() {
         return false;
     }
-    if a.constant && !same_values(a.initial.as_slice(), b.initial.as_slice()) {
-        return false;
-    }
     have_partners_as_owners(pairing, a.owner, b.owner)
-}
-
-fn same_values(a: &[Value], b: &[Value]) -> bool
-    ensures { IsTrue result ↔ (a.now ≡ b.now) }
-{
-    let mut left = a;
-    let mut right = b;
-    'values: while let Some((x, more)) = left.split_first() {
-        match right.split_first() {
-            None => return false,
-            Some((y, others)) => {
-                if *x != *y {
-                    return false;
-                }
-                left = more;
-                right = others;
-            }
-        }
-    }
-    right.len() == 0
 }
 
 fn have_partners_as_owners(pairing: &Pairing, a: Option<u32>, b: Option<u32>) -> bool

@@ -1,22 +1,22 @@
 //! The joint programs of two files, and their twins.
 
-ghost use Rattle.std.specs.Prelude.{◌≡◌, IfOk, IfErr, MatchOption};
+ghost use Rattle.std.specs.Prelude.{IfOk, IfErr, MatchOption};
 ghost use Rattle.version_map.specs.Maps.{said_in};
-ghost use Rattle.c_meaning.specs.Twins.{StandOverOneTable};
+ghost use Rattle.twin_laws.specs.Tables.{StandOverTheTable};
 ghost use Rattle.joint_programs.specs.JointPrograms.{partners_in, table_of_old};
 ghost use Rattle.joint_programs.specs.Faults.{IsJointFault};
 ghost use Rattle.joint_laws.specs.JointStand.{AreJoinable};
 ghost use Rattle.joint_twins.specs.Twins.{AreJointPrograms, AreTwinsOver};
 
 use crate::files::are_joinable;
-use c_meaning::laws::{twin_loops_are_full, twins_are_full, twins_run_alike};
 use joint_laws::laws::joint_programs_stand;
 use joint_objects::FunctionPartners;
 use joint_programs::{JointFault, JointPrograms, joint_programs};
 use rvt_tree::{Pairing, Program};
-use sqlite_items::Items;
 use std::alloc::{AllocError, Global};
+use twin_candidates::candidates;
 use twin_check::closed_twins;
+use twin_laws::laws::{twin_loops_are_full, twins_are_full, twins_run_alike};
 use version_map::Map;
 
 /// The programs of two files over their joint table, and the functions that are twins in them: for each function of the
@@ -54,26 +54,13 @@ pub fn joint_twins(
 
 /// The greatest closed set of twins of joint programs that stand over one table.
 fn twins_over(alloc: Global, joint: &JointPrograms) -> Result<Pairing, AllocError>
-    requires { StandOverOneTable joint.now.pairing joint.now.old joint.now.new_side }
+    requires { StandOverTheTable joint.now.pairing joint.now.old joint.now.new_side }
     ensures { IfOk result (λ twins. AreTwinsOver joint.now twins) }
 {
-    let pairing = copied(alloc, &joint.pairing)?;
-    let twins = closed_twins(&joint.old, &joint.new_side, pairing);
+    let among = candidates(alloc, &joint.old, &joint.new_side, &joint.pairing)?;
+    let twins = closed_twins(&joint.old, &joint.new_side, among);
     twins_run_alike(&twins, &joint.old, &joint.new_side);
     twins_are_full(&twins, &joint.old, &joint.new_side);
     twin_loops_are_full(&twins, &joint.old, &joint.new_side);
     Ok(twins)
-}
-
-fn copied(alloc: Global, pairing: &Pairing) -> Result<Pairing, AllocError>
-    ensures { IfOk result (λ copy. copy ≡ pairing.now) }
-{
-    let functions = Items::from_slice(alloc, pairing.functions.as_slice())?;
-    let objects = Items::from_slice(alloc, pairing.objects.as_slice())?;
-    let structs = Items::from_slice(alloc, pairing.structs.as_slice())?;
-    Ok(Pairing {
-        functions,
-        objects,
-        structs,
-    })
 }

@@ -116,3 +116,43 @@ int of_t(struct T *p) { return p->s.x + p->y; }
     assert!(rt; twins.as_slice() == [Some(0)].as_slice());
     Ok(())
 }
+
+#[test]
+fn a_constant_that_changed(rt: HostRuntime) -> Result<(), Fail> {
+    let old = "const int table[2] = {1, 2}; const int kept[2] = {5, 6}; int count;
+int of_count(int by) { count = count + by; return count; }
+int of_kept(int i) { return kept[i]; }
+int of_table(int i) { return table[i]; }
+int caller(int i) { return of_table(i) + 1; }
+int at(const int *p) { return *p; }
+";
+    let new = "const int table[2] = {1, 3}; const int kept[2] = {5, 6}; int count;
+int of_count(int by) { count = count + by; return count; }
+int of_kept(int i) { return kept[i]; }
+int of_table(int i) { return table[i]; }
+int caller(int i) { return of_table(i) + 1; }
+int at(const int *p) { return *p; }
+";
+    let twins = twins(rt.alloc(), old, new, "")?;
+    assert!(rt; twins.as_slice() == [Some(0), Some(1), None, None, Some(4)].as_slice());
+    Ok(())
+}
+
+#[test]
+fn a_constant_that_changed_and_can_be_pointed_to(rt: HostRuntime) -> Result<(), Fail> {
+    let old = "const int table[2] = {1, 2};
+int at(const int *p) { return *p; }
+int of_short(const short *p) { return *p; }
+int is_next(const int *p, const int *q) { return &p[1] == q; }
+int of_table(void) { return at(table); }
+";
+    let new = "const int table[2] = {1, 3};
+int at(const int *p) { return *p; }
+int of_short(const short *p) { return *p; }
+int is_next(const int *p, const int *q) { return &p[1] == q; }
+int of_table(void) { return at(table); }
+";
+    let twins = twins(rt.alloc(), old, new, "")?;
+    assert!(rt; twins.as_slice() == [None, Some(1), Some(2), None].as_slice());
+    Ok(())
+}
