@@ -1,5 +1,5 @@
 -- The low bits of a number, read with and without a sign.
-use Rattle.std.proofs.Common.{◌≡◌, ℕ, suc, nat_lt, if◌then◌else◌, ◌+◌, ◌-◌, ◌%◌, ◌^◌, ◌<◌, ◌≤◌, true, false, ℤ, pos, negsuc, ◌≤ℤ◌, refl, ap, arith, FitsSigned, to_z, of_z}
+use Rattle.std.proofs.Common.{◌≡◌, ℕ, suc, nat_lt, if◌then◌else◌, ◌-◌, ◌%◌, ◌^◌, ◌<◌, true, false, ℤ, pos, negsuc, ◌≤ℤ◌, refl, ap, arith, FitsSigned, to_z, of_z}
 use Rattle.std.specs.Int.{w8, w16, w32, w64}
 use Rattle.std.proofs.Math.Nat.{mod-eq_of_lt}
 use Rattle.std.proofs.lemmas.Int.{ints}

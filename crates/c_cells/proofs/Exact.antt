@@ -1,5 +1,5 @@
 -- What an operation gives where the exact value is at hand.
-use Rattle.std.proofs.Common.{◌≡◌, ℕ, zero, suc, ◌<◌, Bool, true, false, ◌&&◌, nat_le, if◌then◌else◌, ◌^◌, ◌-◌, ◌≤◌, ℤ, pos, negsuc, neg_ℤ, ◌≤ℤ◌, ◌<ℤ◌, FitsSigned, to_z, of_z, eqb, Option, Some, None, Result, Ok, Err, refl, sym, ap, ◌∙◌, subst, arith, unsigned_abs}
+use Rattle.std.proofs.Common.{◌≡◌, ℕ, zero, suc, ◌<◌, Bool, true, false, ◌&&◌, nat_le, if◌then◌else◌, ◌^◌, ◌-◌, ◌≤◌, ℤ, pos, negsuc, neg_ℤ, ◌≤ℤ◌, ◌<ℤ◌, FitsSigned, to_z, of_z, eqb, Some, None, Result, Ok, Err, refl, sym, ap, ◌∙◌, subst, arith, unsigned_abs}
 use Rattle.std.proofs.lemmas.Bool.Decides.{nat_tests}
 use Rattle.std.specs.Prelude.{int_div}
 use Rattle.std.specs.Int.{w64, w128}
@@ -8,7 +8,6 @@ use Rattle.std.proofs.lemmas.Int.{ints, to_z-of_z, fits_signed_from_abs}
 use Rattle.rvt_num.proofs.Outcomes.{abs_small}
 use Rattle.rvt_num.specs.declared.kinds.Kind.{Kind}
 use Rattle.rvt_num.specs.declared.operations.BinOp.{BinOp}
-use Rattle.rvt_num.specs.declared.operations.BinOp.TheVariants as B
 use Rattle.rvt_num.specs.declared.values.Trap.{Trap}
 use Rattle.rvt_num.specs.declared.values.Trap.TheVariants as T
 use Rattle.rvt_num.specs.declared.values.Value.{Value}

@@ -1,5 +1,5 @@
 -- Numbers that a kind has are wrapped to themselves, and products are wrapped by their patterns.
-use Rattle.std.proofs.Common.{◌≡◌, ℕ, zero, suc, ◌+◌, ◌-◌, ◌*◌, ◌%◌, ◌^◌, ◌<◌, ◌≤◌, ◌≢◌, ℤ, pos, negsuc, ◌+ℤ◌, ◌*ℤ◌, ◌≤ℤ◌, refl, sym, ap, ◌∙◌, arith, unsigned_abs}
+use Rattle.std.proofs.Common.{◌≡◌, ℕ, zero, suc, ◌+◌, ◌-◌, ◌*◌, ◌%◌, ◌^◌, ◌<◌, ◌≢◌, ℤ, pos, negsuc, ◌*ℤ◌, ◌≤ℤ◌, refl, sym, ap, ◌∙◌, arith, unsigned_abs}
 use Rattle.std.proofs.Math.Nat.{mod-eq_of_lt, mul-pos, mul-zero, zero-mul}
 use Rattle.std.proofs.Math.Pow.{pow_pos}
 use Rattle.std.proofs.lemmas.Int.{ints, unsigned_abs-mul}
@@ -8,7 +8,7 @@ use Rattle.rvt_num.specs.declared.kinds.Kind.TheVariants.{Bool as BoolKind, I8, 
 use Rattle.rvt_num.specs.declared.values.Value.TheVariants as V
 use Rattle.rvt_num.specs.Number.{Number}
 use Rattle.rvt_num.specs.Kinds.{width, IsOf}
-use Rattle.rvt_num.specs.Wrapping.{pattern_of, signed_reading, reading, truth_of, wrap, wrapped}
+use Rattle.rvt_num.specs.Wrapping.{pattern_of, signed_reading, truth_of, wrap, wrapped}
 use Rattle.c_cells.specs.Contents.{numeral}
 use Rattle.rvt_num.proofs.Patterns.{pattern-mul}
 use Rattle.rvt_num.proofs.Readings.{signed_reading_low, signed_reading_high, wrap_by_pattern, cut_to_kind}

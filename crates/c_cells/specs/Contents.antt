@@ -1,5 +1,5 @@
 -- What a cell of 16 bytes holds, and which value that is.
-use Rattle.std.specs.Prelude.{◌≡◌, ℕ, Bool, true, false, ℤ, pos, unsigned_abs, refl}
+use Rattle.std.specs.Prelude.{◌≡◌, Bool, true, false, ℤ, pos, unsigned_abs, refl}
 use Rattle.rvt_num.specs.Kinds.{IsOf}
 use Rattle.rvt_num.specs.declared.kinds.Kind.{Kind}
 use Rattle.rvt_num.specs.declared.kinds.Kind.TheVariants.{Bool as BoolKind, I8, U8, I16, U16, I32, U32, I64, U64}
