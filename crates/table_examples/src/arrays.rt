@@ -9,7 +9,8 @@ fn arrays_for_pointers_to_kinds(rt: HostRuntime) -> Result<(), Fail> {
     let two = "int f(int *p, const int *q) { return *p + *q; } int g(int *p) { return *p; }";
     without_map(alloc, two, two, "extra.i32.1 extra.i32.2 ")?;
     without_map(alloc, one, two, "extra.i32.1 extra.i32.2 ")?;
-    let kinds = "void f(unsigned long *a, char *b, unsigned *c, _Bool *d) { *a = 1; *b = 2; *c = 3; *d = 1; }";
+    let kinds =
+        "void f(unsigned long *a, char *b, unsigned *c, _Bool *d) { *a = 1; *b = 2; *c = 3; *d = 1; }";
     without_map(
         alloc,
         kinds,
@@ -25,12 +26,23 @@ fn arrays_for_pointers_to_structs(rt: HostRuntime) -> Result<(), Fail> {
     let old = "struct S { int x; }; int f(struct S *p) { return p->x; }";
     let new = "struct T { int x; }; int f(struct T *p) { return p->x; }";
     without_map(alloc, old, old, "extra.struct.S.1 ")?;
-    without_map(alloc, old, new, "old:extra.struct.S.1 new:extra.struct.T.1 ")?;
+    without_map(
+        alloc,
+        old,
+        new,
+        "old:extra.struct.S.1 new:extra.struct.T.1 ",
+    )?;
     let typedef = "typedef struct { int x; } Q; int f(Q *p, Q *q) { return p->x + q->x; }";
-    without_map(alloc, typedef, typedef, "extra.typedef.Q.1 extra.typedef.Q.2 ")?;
+    without_map(
+        alloc,
+        typedef,
+        typedef,
+        "extra.typedef.Q.1 extra.typedef.Q.2 ",
+    )?;
     let incomplete = "struct S; int f(struct S *p) { return 1; }";
     without_map(alloc, incomplete, incomplete, "")?;
-    let bodies = "struct A; struct B { int x; }; struct A { int y; }; int f(struct A *p, struct B *q, int *r) { return p->y + q->x + *r; }";
+    let bodies =
+        "struct A; struct B { int x; }; struct A { int y; }; int f(struct A *p, struct B *q, int *r) { return p->y + q->x + *r; }";
     without_map(
         alloc,
         bodies,

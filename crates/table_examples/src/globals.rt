@@ -8,7 +8,12 @@ fn order_and_names(rt: HostRuntime) -> Result<(), Fail> {
     without_map(alloc, "int a; int b;", "int b; int a;", "a b ")?;
     without_map(alloc, "int a;", "int b; int a; int c;", "a new:b new:c ")?;
     without_map(alloc, "int a; int b;", "int b;", "old:a b ")?;
-    without_map(alloc, "int a; int b; int c;", "int d; int c; int a;", "a old:b c new:d ")?;
+    without_map(
+        alloc,
+        "int a; int b; int c;",
+        "int d; int c; int a;",
+        "a old:b c new:d ",
+    )?;
     without_map(alloc, "int a;", "int a = 3;", "a ")?;
     Ok(())
 }
