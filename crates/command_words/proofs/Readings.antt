@@ -1,19 +1,18 @@
 -- The words that are read one after another say what the line says, and nothing else.
-use Rattle.std.proofs.Common.{◌≡◌, ℕ, suc, ◌+◌, Bool, true, false, List, [], ◌∷◌, ◌++◌, Option, Some, None, length, not, refl, sym, ◌∙◌, ap, subst, arith}
-use Rattle.std.specs.Prelude.{◌==◌, ◌&&◌, if◌then◌else◌, codes, bytes_eq, unwrap_or, option_map}
+use Rattle.std.proofs.Common.{◌≡◌, ℕ, suc, Bool, true, false, List, [], ◌∷◌, ◌++◌, Option, Some, None, not, refl, sym, ◌∙◌, ap, subst, arith}
+use Rattle.std.specs.Prelude.{◌==◌, ◌&&◌, if◌then◌else◌, codes, bytes_eq, option_map}
 use Rattle.std.specs.List.{list_all}
 use Rattle.std.proofs.lemmas.Bool.{eqb-true}
 use Rattle.std.proofs.lemmas.Slice.Eq.{bytes_eq-Decides}
 use Rattle.command_words.specs.declared.options.Flag.{Flag}
-use Rattle.command_words.specs.declared.options.Flag.TheVariants.{Steps}
+use Rattle.command_words.specs.declared.options.Flag.TheVariants.{Map, Steps}
 use Rattle.command_words.specs.declared.options.Verb.{Verb}
-use Rattle.command_words.specs.declared.options.Verb.TheVariants.{Compare, Run}
 use Rattle.command_words.specs.declared.lines.State.{State}
 use Rattle.command_words.specs.declared.lines.State.TheVariants.{Open, Waiting, Behind}
 use Rattle.command_words.specs.Lines.{begins_with_dash, Setting, Says, no_more, positional, joined, apart, bare, behind}
 use Rattle.command_words.specs.Options.{name_of, has_value, takes}
-use Rattle.command_words.specs.Scan.{Said, with_name, with_setting, option_with, option_step, open_step, value_step, text_step, step, at_end, scan}
-use Rattle.command_words.specs.Spellings.{Spelled, spelling_of, flag_named, behind_dashes, cut, option_in, option_behind}
+use Rattle.command_words.specs.Scan.{Said, with_name, with_setting, option_with, option_step, open_step, value_step, text_step, scan}
+use Rattle.command_words.specs.Spellings.{Spelled, spelling_of, flag_named, behind_dashes, cut, option_behind}
 use Rattle.command_words.specs.Texts.{is_printing, is_text}
 
 -- ---- tests
@@ -82,7 +81,15 @@ dashes_whole (a ∷ b ∷ rest) text is =
     ap (λ (n : ℕ). n ∷ b ∷ rest) first ∙ ap (λ (n : ℕ). 45 ∷ n ∷ rest) second ∙ ap (λ (t : List ℕ). 45 ∷ 45 ∷ t) same
 
 name_whole : (name : List ℕ) (flag : Flag) → flag_named name ≡ Some flag → name ≡ name_of flag
-name_whole name Steps is = (bytes_eq-Decides name (name_of Steps)).0 (if_some (bytes_eq name (name_of Steps)) (Some Steps) Steps is).0
+name_whole name flag is = first (bytes_eq name (name_of Map)) refl is
+  where
+    second : (b : Bool) → bytes_eq name (name_of Steps) ≡ b → (if b then Some Steps else None) ≡ Some flag → name ≡ name_of flag
+    second true same e = (bytes_eq-Decides name (name_of Steps)).0 same ∙ ap name_of (same_value Steps flag e)
+    second false same e = cc
+
+    first : (b : Bool) → bytes_eq name (name_of Map) ≡ b → (if b then Some Map else (if bytes_eq name (name_of Steps) then Some Steps else None)) ≡ Some flag → name ≡ name_of flag
+    first true same e = (bytes_eq-Decides name (name_of Map)).0 same ∙ ap name_of (same_value Map flag e)
+    first false same e = second (bytes_eq name (name_of Steps)) refl e
 
 -- a word that spells an option
 spelled_whole : (word : List ℕ) (spelled : Spelled) → spelling_of word ≡ Some spelled → word ≡ codes "--" ++ (name_of spelled.0 ++ tail_of spelled.1)
@@ -119,15 +126,17 @@ module _ (verb : Verb) (word : List ℕ) (words : List (List ℕ)) (text : is_te
 
   option_said : (flag : Flag) (value : Option (List ℕ)) (valued : Bool) (said : Said) → has_value flag ≡ valued → word ≡ codes "--" ++ (name_of flag ++ tail_of value) → takes verb flag ≡ true
       → option_with valued flag value go ≡ Some said → Says verb (word ∷ words) said.0 said.1
+  option_said Map None true said valued spelled taken e = apart_said Map said spelled taken valued (more (Waiting Map) said e)
   option_said Steps None true said valued spelled taken e = apart_said Steps said spelled taken valued (more (Waiting Steps) said e)
-  option_said Steps (Some value) true said valued spelled taken e =
-      let good = if_some (is_text value) (with_setting Steps value (go Open)) said e in
-      let rest = setting_in Steps value (go Open) said good.1 in
+  option_said flag (Some value) true said valued spelled taken e =
+      let good = if_some (is_text value) (with_setting flag value (go Open)) said e in
+      let rest = setting_in flag value (go Open) said good.1 in
       subst (λ (s : Said). Says verb (word ∷ words) s.0 s.1) (sym rest.2)
-      (subst (λ (w : List ℕ). Says verb (w ∷ words) rest.0.0 ((Steps, value) ∷ rest.0.1)) (sym spelled)
-      (joined Steps value words rest.0.0 rest.0.1 taken valued good.0 (more Open rest.0 rest.1)))
+      (subst (λ (w : List ℕ). Says verb (w ∷ words) rest.0.0 ((flag, value) ∷ rest.0.1)) (sym spelled)
+      (joined flag value words rest.0.0 rest.0.1 taken valued good.0 (more Open rest.0 rest.1)))
+  option_said Map None false said valued spelled taken e = cc
   option_said Steps None false said valued spelled taken e = cc
-  option_said Steps (Some value) false said valued spelled taken e = cc
+  option_said flag (Some value) false said valued spelled taken e = cc
 
   spelled_said : (o : Option Spelled) (said : Said) → spelling_of word ≡ o → option_step verb o go ≡ Some said → Says verb (word ∷ words) said.0 said.1
   spelled_said None said at e = cc
@@ -191,12 +200,17 @@ module _ (verb : Verb) where
   -- a taken option with its value joined
   joined_read : (flag : Flag) (value : List ℕ) (words : List (List ℕ)) → takes verb flag ≡ true → is_text value ≡ true
       → scan verb Open ((codes "--" ++ (name_of flag ++ (codes "=" ++ value))) ∷ words) ≡ with_setting flag value (scan verb Open words)
+  joined_read Map value words taken text =
+      read_text Open (codes "--map=" ++ value) words (ap (λ (b : Bool). (not b && true) && list_all is_printing value) (longer _) ∙ and_right _ (list_all is_printing value) text)
+      ∙ if_true (takes verb Map) (option_with true Map (Some value) (λ next. scan verb next words)) None taken
+      ∙ if_true (is_text value) (with_setting Map value (scan verb Open words)) None text
   joined_read Steps value words taken text =
       read_text Open (codes "--steps=" ++ value) words (ap (λ (b : Bool). (not b && true) && list_all is_printing value) (longer _) ∙ and_right _ (list_all is_printing value) text)
       ∙ if_true (takes verb Steps) (option_with true Steps (Some value) (λ next. scan verb next words)) None taken
       ∙ if_true (is_text value) (with_setting Steps value (scan verb Open words)) None text
 
   apart_read : (flag : Flag) (words : List (List ℕ)) → takes verb flag ≡ true → has_value flag ≡ true → scan verb Open ((codes "--" ++ name_of flag) ∷ words) ≡ scan verb (Waiting flag) words
+  apart_read Map words taken valued = if_true (takes verb Map) (option_with true Map None (λ next. scan verb next words)) None taken
   apart_read Steps words taken valued = if_true (takes verb Steps) (option_with true Steps None (λ next. scan verb next words)) None taken
 
 pub said_is_read : (verb : Verb) (words names : List (List ℕ)) (settings : List Setting) → Says verb words names settings → scan verb Open words ≡ Some (names, settings)
@@ -212,5 +226,6 @@ said_is_read verb _ _ _ (apart flag value words names settings taken valued text
     ∙ read_text verb (Waiting flag) value words text
     ∙ if_false (begins_with_dash value) None (with_setting flag value (scan verb Open words)) plain
     ∙ ap (λ (o : Option Said). with_setting flag value o) (said_is_read verb words names settings rest)
+said_is_read verb _ _ _ (bare Map words names settings taken valued rest) = cc
 said_is_read verb _ _ _ (bare Steps words names settings taken valued rest) = cc
 said_is_read verb _ _ _ (behind words all) = behind_read verb words all

@@ -1,14 +1,14 @@
 -- How one word spells an option, as a function.
-use Rattle.std.specs.Prelude.{ℕ, ◌==◌, ◌&&◌, Bool, if◌then◌else◌, List, [], ◌∷◌, bytes_eq, Option, Some, None, option_map}
+use Rattle.std.specs.Prelude.{ℕ, ◌==◌, ◌&&◌, if◌then◌else◌, List, [], ◌∷◌, bytes_eq, Option, Some, None, option_map}
 use Rattle.std.specs.Borrow.{Bor}
 use Rattle.command_words.specs.declared.options.Flag.{Flag}
-use Rattle.command_words.specs.declared.options.Flag.TheVariants.{Steps}
+use Rattle.command_words.specs.declared.options.Flag.TheVariants.{Map, Steps}
 use Rattle.command_words.specs.declared.lines.Spelling.{Spelling}
 use Rattle.command_words.specs.Options.{name_of}
 
 -- the option of this name
 abbrev pub flag_named : List ℕ → Option Flag
-flag_named name = if bytes_eq name (name_of Steps) then Some Steps else None
+flag_named name = if bytes_eq name (name_of Map) then Some Map else (if bytes_eq name (name_of Steps) then Some Steps else None)
 
 -- an option, and its value where that is joined to it
 abbrev pub Spelled : Type 0

@@ -12,11 +12,12 @@ use crate::numbers::steps_of;
 use crate::options::{Flag, Verb};
 use std::alloc::{AllocError, Global};
 
-/// `compare OLD NEW`
+/// `compare OLD NEW [--map F]`
 #[derive(Clone, Copy, Drop)]
 pub struct Comparison<'a> {
     pub old_name: &'a str,
     pub new_name: &'a str,
+    pub map: Option<&'a str>,
 }
 
 /// `run FILE FUNCTION [ARG]... [--steps N]`
@@ -64,6 +65,10 @@ fn compare<'a>(alloc: Global, words: &'a [String]) -> Result<Option<Command<'a>>
         Some(line) => line,
         None => return Ok(None),
     };
+    let map = match once(line.settings.as_slice(), Flag::Map) {
+        Some(map) => map,
+        None => return Ok(None),
+    };
     let names = match first_two(line.names.as_slice()) {
         Some(names) => names,
         None => return Ok(None),
@@ -74,6 +79,7 @@ fn compare<'a>(alloc: Global, words: &'a [String]) -> Result<Option<Command<'a>>
     Ok(Some(Command::Compare(Comparison {
         old_name: names.first,
         new_name: names.second,
+        map,
     })))
 }
 
@@ -137,7 +143,7 @@ fn once<'a>(settings: &[Setting<'a>], flag: Flag) -> Option<Option<&'a str>>
 {
     let mut found = None;
     for setting in settings {
-        if setting.flag == flag {
+        if setting.flag.is(flag) {
             if found.is_some() {
                 return None;
             }

@@ -1,46 +1,7 @@
-use rvt_edge::{Desk, MemoryDesk, MemorySink};
-use rvt_run::rvt;
-use std::alloc::Global;
+use crate::desks::{compare, run};
 use std::test::Fail;
 
 const FACTORIAL: &str = "int f(int n){ if (n <= 1) return 1; return n * f(n - 1); }";
-
-// The status and the text of these words, over a desk with these files.
-fn run(
-    alloc: Global,
-    files: &[(&str, &[u8])],
-    words: &[&str],
-    fail_puts: Vec<u32>,
-) -> Result<(u8, String), Fail> {
-    let mut desk = MemoryDesk::new(alloc, Vec::new(alloc));
-    for (name, content) in files {
-        if desk.save(alloc, name, content).is_err() {
-            return Err(Fail::from("the desk refused"));
-        }
-    }
-    let mut given = Vec::new(alloc);
-    for word in words {
-        given.push(String::from_str(alloc, word)?)?;
-    }
-    let Ok(mut sink) = MemorySink::new(alloc, 1000, fail_puts) else {
-        return Err(Fail::from("no sink"));
-    };
-    let status = rvt(alloc, &given, &mut desk, &mut sink);
-    let mut text = String::new(alloc);
-    for byte in sink.bytes() {
-        text.push(char::from(*byte))?;
-    }
-    Ok((status, text))
-}
-
-fn compare(alloc: Global, old: &[u8], new: &[u8]) -> Result<(u8, String), Fail> {
-    run(
-        alloc,
-        &[("old.c", old), ("new.c", new)],
-        &["compare", "old.c", "new.c"],
-        Vec::new(alloc),
-    )
-}
 
 const QUEUE: &str = "#include <stdint.h>
 #include <stdbool.h>

@@ -11,7 +11,8 @@ use Rattle.rvt_tree.specs.Same.{ArePaired}
 use Rattle.c_meaning.specs.Interfaces.{StandsIn, name_of, named_in_loop, declared_in_loop}
 use Rattle.c_meaning.specs.Twins.{IsClosed}
 use Rattle.twin_check.specs.Sets.{IsWithin, HasEveryClosed}
-use Rattle.one_table.specs.Twins.{AreTwinsOf}
+use Rattle.joint_programs.specs.declared.programs.JointPrograms.{JointPrograms}
+use Rattle.joint_twins.specs.Twins.{AreTwinsOver}
 use Rattle.loop_interfaces.specs.declared.interfaces.LoopInterface.{LoopInterface}
 use Rattle.loop_interfaces.specs.NameOrder.{AreInterfaces, IsLoopInterface}
 use Rattle.rvt_run.specs.LoopTwins.{AreNamedSo, HaveOneNamingIn, AreNamedAlike, AllNamedAlike, AreLoopTwins, KeepsNamedAlike}
@@ -124,24 +125,25 @@ module _ (old new : Program) where
     alike = λ f g there. let low = paired_within now.functions f g there in so.alike f g (omega (arith, low, all)) there;
   }
 
-  -- ---- the greatest closed set among those that are left
+-- ---- the greatest closed set among those that are left
 
-  pub greatest_is : (all left twins : Pairing) → AreTwinsOf old new all → KeepsNamedAlike old new all left → IsClosed twins old new → IsWithin twins left → HasEveryClosed old new left twins → AreLoopTwins old new twins
-  greatest_is all left twins are keeps closed within every = record {
-    all = all;
-    are = are;
-    within = record { functions = λ f g h. keeps.within.functions f g (within.functions f g h); objects = within.objects ∙ keeps.within.objects; structs = within.structs ∙ keeps.within.structs };
-    closed = closed;
-    alike = λ f g h. keeps.alike f g (within.functions f g h);
-    greatest = λ set inside closed' alike. let among = are.greatest set inside closed' in every set (left_in set among alike) closed';
-  }
-    where
-      left_in : (set : Pairing) → IsWithin set all → AllNamedAlike set old new → IsWithin set left
-      left_in set among alike = record {
-        functions = λ f g h. keeps.kept f g (among.functions f g h) (alike f g h);
-        objects = among.objects ∙ sym keeps.within.objects;
-        structs = among.structs ∙ sym keeps.within.structs;
-      }
+pub greatest_is : (joint : JointPrograms) (all left twins : Pairing) → AreTwinsOver joint all → KeepsNamedAlike joint.old joint.new_side all left → IsClosed twins joint.old joint.new_side → IsWithin twins left →
+    HasEveryClosed joint.old joint.new_side left twins → AreLoopTwins joint twins
+greatest_is joint all left twins are keeps closed within every = record {
+  all = all;
+  are = are;
+  within = record { functions = λ f g h. keeps.within.functions f g (within.functions f g h); objects = within.objects ∙ keeps.within.objects; structs = within.structs ∙ keeps.within.structs };
+  closed = closed;
+  alike = λ f g h. keeps.alike f g (within.functions f g h);
+  greatest = λ set inside closed' alike. let among = are.greatest set inside closed' in every set (left_in set among alike) closed';
+}
+  where
+    left_in : (set : Pairing) → IsWithin set all → AllNamedAlike set joint.old joint.new_side → IsWithin set left
+    left_in set among alike = record {
+      functions = λ f g h. keeps.kept f g (among.functions f g h) (alike f g h);
+      objects = among.objects ∙ sym keeps.within.objects;
+      structs = among.structs ∙ sym keeps.within.structs;
+    }
 
 -- ---- locals of one name
 

@@ -7,6 +7,7 @@ use Rattle.rvt_tree.specs.declared.programs.Function.{Function}
 use Rattle.loop_interfaces.specs.declared.interfaces.LoopInterface.{LoopInterface}
 use Rattle.loop_interfaces.specs.Loops.{loops_of}
 use Rattle.loop_interfaces.specs.NameOrder.{AreInterfaces}
+use Rattle.function_pairs.specs.Units.{pair_name}
 use Rattle.rvt_run.specs.declared.pairs.Pair.{Pair}
 use Rattle.rvt_run.specs.declared.pairs.Verdict.{Verdict}
 use Rattle.rvt_run.specs.Pairs.{PairVerdict, AreLoops, AreLoopPairs, IsLoopVerdict, said}
@@ -18,12 +19,12 @@ module _ (pairing : Pairing) (f g : Function) (are_twins : Bool) (Whole : List P
 
   -- one pair more
   pub one_more : (left right more others : List LoopInterface) (a b : LoopInterface) (verdict : Verdict) (made : List PairVerdict) → left ≡ a ∷ more → right ≡ b ∷ others → a.number < 2 ^ 32 →
-      IsLoopVerdict pairing f g are_twins a b verdict → Leads left right made → Leads more others (made ++ (f.name, Some a.number, verdict) ∷ [])
+      IsLoopVerdict pairing f g are_twins a b verdict → Leads left right made → Leads more others (made ++ (pair_name f.name g.name, Some a.number, verdict) ∷ [])
   one_more left right more others a b verdict made e e' small judged leads rest pairs =
-      subst Whole (sym (append_assoc made ((f.name, Some a.number, verdict) ∷ []) rest))
-      (leads ((f.name, Some a.number, verdict) ∷ rest)
-      (subst (λ (l : List LoopInterface). AreLoopPairs pairing f g are_twins l right ((f.name, Some a.number, verdict) ∷ rest)) (sym e)
-      (subst (λ (r : List LoopInterface). AreLoopPairs pairing f g are_twins (a ∷ more) r ((f.name, Some a.number, verdict) ∷ rest)) (sym e') (refl, refl, small, judged, pairs))))
+      subst Whole (sym (append_assoc made ((pair_name f.name g.name, Some a.number, verdict) ∷ []) rest))
+      (leads ((pair_name f.name g.name, Some a.number, verdict) ∷ rest)
+      (subst (λ (l : List LoopInterface). AreLoopPairs pairing f g are_twins l right ((pair_name f.name g.name, Some a.number, verdict) ∷ rest)) (sym e)
+      (subst (λ (r : List LoopInterface). AreLoopPairs pairing f g are_twins (a ∷ more) r ((pair_name f.name g.name, Some a.number, verdict) ∷ rest)) (sym e') (refl, refl, small, judged, pairs))))
 
   -- there are no more loops on the first side
   pub none_left : (left right : List LoopInterface) (made : List PairVerdict) → left ≡ [] → Leads left right made → Whole made
@@ -48,7 +49,7 @@ loops_are pairing f g are_twins loops others left right pairs fs gs e e' are = r
 }
 
 -- what is said of one pair more
-pub said_push : (made : List Pair) (pair : Pair) (name : List ℕ) (number : Option ℕ) → pair.name.now ≡ name → pair.loop_number ≡ number → map said (made ++ pair ∷ []) ≡ map said made ++ (name, number, pair.verdict) ∷ []
+pub said_push : (made : List Pair) (pair : Pair) (name : List ℕ) (number : Option ℕ) → pair_name pair.old_name.now pair.new_name.now ≡ name → pair.loop_number ≡ number → map said (made ++ pair ∷ []) ≡ map said made ++ (name, number, pair.verdict) ∷ []
 said_push made pair name number e e' =
     map-append said made (pair ∷ [])
     ∙ ap (λ (n : List ℕ). map said made ++ (n, pair.loop_number, pair.verdict) ∷ []) e

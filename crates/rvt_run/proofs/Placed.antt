@@ -4,9 +4,12 @@ use Rattle.std.specs.Prelude.{◌==◌, if◌then◌else◌, codes}
 use Rattle.std.specs.Fmt.{decimal}
 use Rattle.c_source.specs.declared.refused.Refusal.{Refusal}
 use Rattle.c_programs.specs.Texts.{refusal_text}
-use Rattle.rvt_run.specs.Answer.{line, refusal_said}
+use Rattle.rvt_run.specs.Answer.{refusal_said}
+use Rattle.rvt_run.specs.Lines.{line, line_said}
 use Rattle.rvt_run.specs.Report.{IsNameByte, IsName, unit_text, full_line}
+use Rattle.function_pairs.specs.Units.{pair_name}
 use Rattle.rvt_run.proofs.Digits.{AreDigits, decimal_are}
+use Rattle.rvt_run.proofs.Units.{by_names}
 
 -- no byte is a colon, by computing
 abbrev pub without_colon : List ℕ → Bool
@@ -63,9 +66,13 @@ literal (b ∷ text) is = cases (b == 58) refl (literal text)
         apart : b ≡ 58 → (b == 58) ≡ false → ⊥
         apart colon other = let no : true ≡ false = sym (ap (λ (x : ℕ). x == 58) colon) ∙ other in cc
 
-pub unit_none : (name : List ℕ) (number : Option ℕ) → IsName name → HasNoColon (unit_text name number)
-unit_none name None is = name_none name is
-unit_none name (Some n) is = joined name (codes " loop " ++ decimal n) (name_none name is) (joined (codes " loop ") (decimal n) (literal (codes " loop ") refl) (digits_none (decimal n) (decimal_are n)))
+pub unit_none : (name : List ℕ) (number : Option ℕ) → HasNoColon name → HasNoColon (unit_text name number)
+unit_none name None none = none
+unit_none name (Some n) none = joined name (codes " loop " ++ decimal n) none (joined (codes " loop ") (decimal n) (literal (codes " loop ") refl) (digits_none (decimal n) (decimal_are n)))
+
+-- the printed name of two functions
+pub pair_none : (a b : List ℕ) → IsName a → IsName b → HasNoColon (pair_name a b)
+pair_none a b is is' = by_names a b HasNoColon (λ same. name_none a is) (joined (a ++ codes " -> ") b (joined a (codes " -> ") (name_none a is) (literal (codes " -> ") refl)) (name_none b is'))
 
 -- behind a text without a colon there is one colon alone
 one_colon : (before between behind name rest : List ℕ) → HasNoColon name → without_colon rest ≡ true → before ++ 58 ∷ (between ++ 58 ∷ behind) ≡ name ++ 58 ∷ rest → ⊥
@@ -78,8 +85,8 @@ one_colon (a ∷ before) between behind (b ∷ name) rest none plain e =
     let h : before ++ 58 ∷ (between ++ 58 ∷ behind) ≡ name ++ 58 ∷ rest = cc in
     one_colon before between behind name rest none.1 plain h
 
-pub placed_no_full : (file : List ℕ) (refusal : Refusal) (name : List ℕ) (number : Option ℕ) → IsName name → line file (refusal_said refusal) ≡ full_line name number → ⊥
-placed_no_full file refusal name number is_name e =
+pub placed_no_full : (file : List ℕ) (refusal : Refusal) (name : List ℕ) (number : Option ℕ) → HasNoColon name → line file (refusal_said refusal) ≡ full_line name number → ⊥
+placed_no_full file refusal name number none e =
     let first : List ℕ = decimal refusal.place.line in
     let second : List ℕ = decimal refusal.place.column ++ codes ": " in
     let text : List ℕ = refusal_text refusal.cause refusal.word in
@@ -87,5 +94,16 @@ placed_no_full file refusal name number is_name e =
     ap (λ (l : List ℕ). l ++ 10 ∷ []) (append_assoc first (58 ∷ second) text) ∙ append_assoc first (58 ∷ (second ++ text)) (10 ∷ []) in
     let spread : line file (refusal_said refusal) ≡ file ++ 58 ∷ (first ++ 58 ∷ ((second ++ text) ++ 10 ∷ [])) =
     append_assoc file (refusal_said refusal) (10 ∷ []) ∙ ap (λ (l : List ℕ). file ++ 58 ∷ l) inner in
-    one_colon file first ((second ++ text) ++ 10 ∷ []) (unit_text name number) (codes " fully equivalent, twin" ++ 10 ∷ []) (unit_none name number is_name) refl
+    one_colon file first ((second ++ text) ++ 10 ∷ []) (unit_text name number) (codes " fully equivalent, twin" ++ 10 ∷ []) (unit_none name number none) refl
+    (sym spread ∙ e ∙ append_assoc (unit_text name number) (codes ": fully equivalent, twin") (10 ∷ []))
+
+-- a line of the map that is refused
+pub mapped_no_full : (file : List ℕ) (at : ℕ) (text name : List ℕ) (number : Option ℕ) → HasNoColon name → line file (line_said at text) ≡ full_line name number → ⊥
+mapped_no_full file at text name number none e =
+    let first : List ℕ = decimal at in
+    let inner : ((first ++ codes ": ") ++ text) ++ 10 ∷ [] ≡ first ++ 58 ∷ ((32 ∷ text) ++ 10 ∷ []) =
+    ap (λ (l : List ℕ). l ++ 10 ∷ []) (append_assoc first (codes ": ") text) ∙ append_assoc first (codes ": " ++ text) (10 ∷ []) in
+    let spread : line file (line_said at text) ≡ file ++ 58 ∷ (first ++ 58 ∷ ((32 ∷ text) ++ 10 ∷ [])) =
+    append_assoc file (line_said at text) (10 ∷ []) ∙ ap (λ (l : List ℕ). file ++ 58 ∷ l) inner in
+    one_colon file first ((32 ∷ text) ++ 10 ∷ []) (unit_text name number) (codes " fully equivalent, twin" ++ 10 ∷ []) (unit_none name number none) refl
     (sym spread ∙ e ∙ append_assoc (unit_text name number) (codes ": fully equivalent, twin") (10 ∷ []))

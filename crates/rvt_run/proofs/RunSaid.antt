@@ -1,9 +1,8 @@
 -- What is said of a run.
-use Rattle.std.proofs.Common.{◌≡◌, ℕ, zero, suc, ◌+◌, ◌-◌, ◌^◌, ◌<◌, nat_lt, Bool, true, false, Option, Some, None, length, get_or, List, [], ◌∷◌, ◌++◌, Result, Ok, Err, refl, sym, ◌∙◌, ap, subst, arith}
-use Rattle.std.specs.Prelude.{codes, IfOk, ℤ, pos, negsuc, ◌≤ℤ◌, bytes_eq, cond, map, position, slice_get, Vec}
+use Rattle.std.proofs.Common.{◌≡◌, ℕ, zero, suc, ◌<◌, nat_lt, Bool, true, false, Option, Some, None, length, get_or, List, [], ◌∷◌, ◌++◌, Result, Ok, Err, refl, sym, ◌∙◌, ap, subst, arith}
+use Rattle.std.specs.Prelude.{codes, IfOk, ℤ, pos, negsuc, bytes_eq, cond, map, position, slice_get, Vec}
 use Rattle.std.specs.Fmt.{decimal, signed_decimal}
 use Rattle.std.specs.String.{string_bytes}
-use Rattle.std.proofs.lemmas.Int.{ints}
 use Rattle.rvt_num.specs.declared.values.Trap.{Trap}
 use Rattle.rvt_num.specs.declared.values.Trap.TheVariants as T
 use Rattle.rvt_run.specs.declared.run.Said.{Said}

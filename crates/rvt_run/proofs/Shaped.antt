@@ -1,6 +1,6 @@
 -- Each line of an answer is one line.
-use Rattle.std.proofs.Common.{◌≡◌, ◌≢◌, ℕ, suc, ◌+◌, ◌-◌, ◌^◌, ◌<◌, ◌≤◌, Bool, true, false, if◌then◌else◌, List, [], ◌∷◌, ◌++◌, length, Option, Some, None, refl, sym, ◌∙◌, ap, subst, arith}
-use Rattle.std.specs.Prelude.{◌==◌, ◌&&◌, codes, cond, All}
+use Rattle.std.proofs.Common.{◌≡◌, ◌≢◌, ℕ, zero, suc, ◌+◌, ◌-◌, Bool, true, false, if◌then◌else◌, List, [], ◌∷◌, ◌++◌, length, Option, Some, None, refl, sym, ◌∙◌, ap, subst, arith}
+use Rattle.std.specs.Prelude.{◌==◌, ◌&&◌, codes, All, slice_get}
 use Rattle.std.specs.Fmt.{decimal}
 use Rattle.std.proofs.lemmas.Bool.{eqb-true}
 use Rattle.std.proofs.lemmas.List.{map-append}
@@ -10,12 +10,16 @@ use Rattle.rvt_tree.specs.declared.programs.Function.{Function}
 use Rattle.rvt_tree.specs.declared.programs.Program.{Program}
 use Rattle.rvt_run.specs.declared.pairs.Verdict.{Verdict}
 use Rattle.rvt_run.specs.declared.pairs.Verdict.TheVariants.{Twin, Interface, Bodies}
-use Rattle.rvt_run.specs.Answer.{IsLine, line, no_command}
+use Rattle.rvt_run.specs.Answer.{IsLine, no_command}
+use Rattle.rvt_run.specs.Lines.{line, line_said}
 use Rattle.loop_interfaces.specs.declared.interfaces.LoopInterface.{LoopInterface}
-use Rattle.rvt_run.specs.Pairs.{PairVerdict, ArePairs, no_more, skipped, paired, AreLoopPairs, units_alone, is_twin}
+use Rattle.rvt_run.specs.Pairs.{PairVerdict, ArePairs, no_more, skipped, paired, AreLoopPairs, units_alone, is_twin, partner_at, function_at}
 use Rattle.rvt_run.specs.Report.{verdict_text, unit_text, unit_lines, pair_line, pair_lines, only_lines, counts_text, counts_of, full_among, report_lines}
 use Rattle.rvt_run.specs.Texts.{HasNoLineEnd}
+use Rattle.function_pairs.specs.declared.pairs.FunctionPairs.{FunctionPairs}
+use Rattle.function_pairs.specs.Units.{pair_name}
 use Rattle.rvt_run.proofs.Digits.{AreDigits, decimal_are}
+use Rattle.rvt_run.proofs.Units.{by_names}
 use Rattle.command_words.specs.Texts.{is_printing, is_text}
 use Rattle.std.specs.List.{list_all}
 
@@ -108,30 +112,49 @@ unit_none name (Some n) none = joined name (codes " loop " ++ decimal n) none (j
 pair_shaped : (name : List ℕ) (number : Option ℕ) (verdict : Verdict) → HasNoLineEnd name → IsLine (pair_line (name, number, verdict))
 pair_shaped name number verdict none = line_of (unit_text name number) (verdict_text verdict) (unit_none name number none) (verdict_none verdict)
 
-loops_shaped : (pairing : Pairing) (f g : Function) (are_twins : Bool) (loops others : List LoopInterface) (pairs : List PairVerdict) → AreLoopPairs pairing f g are_twins loops others pairs → HasNoLineEnd f.name → All IsLine (pair_lines pairs)
+loops_shaped : (pairing : Pairing) (f g : Function) (are_twins : Bool) (loops others : List LoopInterface) (pairs : List PairVerdict) → AreLoopPairs pairing f g are_twins loops others pairs → HasNoLineEnd (pair_name f.name g.name) → All IsLine (pair_lines pairs)
 loops_shaped pairing f g are_twins [] others pairs none plain = subst (λ (l : List PairVerdict). All IsLine (pair_lines l)) (sym none) (All-nil IsLine)
 loops_shaped pairing f g are_twins (a ∷ loops) [] pairs none plain = subst (λ (l : List PairVerdict). All IsLine (pair_lines l)) (sym none) (All-nil IsLine)
 loops_shaped pairing f g are_twins (a ∷ loops) (b ∷ others) [] are plain = absurd are
 loops_shaped pairing f g are_twins (a ∷ loops) (b ∷ others) (p ∷ pairs) are plain =
     All-cons IsLine (pair_line p) (pair_lines pairs) (pair_shaped p.0 p.1 p.2 (subst HasNoLineEnd (sym are.0) plain)) (loops_shaped pairing f g are_twins loops others pairs are.4 plain)
 
-pairs_shaped : (pairing : Pairing) (new : List Function) (twins : Option Pairing) (i : ℕ) (fs : List Function) (pairs : List PairVerdict) → ArePairs pairing new twins i fs pairs → NamesNone fs → All IsLine (pair_lines pairs)
-pairs_shaped pairing new twins _ _ _ (no_more i) none = All-nil IsLine
-pairs_shaped pairing new twins _ _ _ (skipped i f fs pairs alone rest) none = pairs_shaped pairing new twins (i + 1) fs pairs rest (rest_none f fs none)
-pairs_shaped pairing new twins _ _ _ (paired i f fs pairs g verdict loops some judged are_loops rest) none =
-    All-cons IsLine (pair_line (f.name, None, verdict)) (pair_lines (loops ++ pairs)) (pair_shaped f.name None verdict (first_none f fs none))
+-- the printed name of two functions
+name_shaped : (a b : List ℕ) → HasNoLineEnd a → HasNoLineEnd b → HasNoLineEnd (pair_name a b)
+name_shaped a b none none' = by_names a b HasNoLineEnd (λ same. none) (joined (a ++ codes " -> ") b (joined a (codes " -> ") none (literal (codes " -> ") refl)) none')
+
+there_none : (fs : List Function) → NamesNone fs → (k : ℕ) (g : Function) → slice_get fs k ≡ Some g → HasNoLineEnd g.name
+there_none [] none k g there = let no : ◌≡◌ {A = Option Function} None (Some g) = there in cc
+there_none (f ∷ fs) none zero g there = let same : f ≡ g = cc in subst (λ (x : Function). HasNoLineEnd x.name) same (first_none f fs none)
+there_none (f ∷ fs) none (suc k) g there = there_none fs (rest_none f fs none) k g there
+
+partner_none : (partners : List (Option ℕ)) (new : List Function) (i : ℕ) (g : Function) → NamesNone new → partner_at partners new i ≡ Some g → HasNoLineEnd g.name
+partner_none partners new i g none partner = by (slice_get partners i) partner
+  where
+    by : (o : Option (Option ℕ)) → function_at new o ≡ Some g → HasNoLineEnd g.name
+    by (Some (Some k)) there = there_none new none k g there
+    by (Some None) there = let no : ◌≡◌ {A = Option Function} None (Some g) = there in cc
+    by None there = let no : ◌≡◌ {A = Option Function} None (Some g) = there in cc
+
+pairs_shaped : (pairing : Pairing) (partners : List (Option ℕ)) (new : List Function) (twins : Option Pairing) (i : ℕ) (fs : List Function) (pairs : List PairVerdict) → ArePairs pairing partners new twins i fs pairs → NamesNone fs → NamesNone new → All IsLine (pair_lines pairs)
+pairs_shaped pairing partners new twins _ _ _ (no_more i) none news = All-nil IsLine
+pairs_shaped pairing partners new twins _ _ _ (skipped i f fs pairs alone rest) none news = pairs_shaped pairing partners new twins (i + 1) fs pairs rest (rest_none f fs none) news
+pairs_shaped pairing partners new twins _ _ _ (paired i f fs pairs g verdict loops some judged are_loops rest) none news =
+    let named = name_shaped f.name g.name (first_none f fs none) (partner_none partners new i g news some) in
+    All-cons IsLine (pair_line (pair_name f.name g.name, None, verdict)) (pair_lines (loops ++ pairs)) (pair_shaped (pair_name f.name g.name) None verdict named)
     (subst (All IsLine) (sym (map-append pair_line loops pairs)) (All-append IsLine (pair_lines loops) (pair_lines pairs)
-    (loops_shaped pairing f g (is_twin twins i) are_loops.old are_loops.new_side loops are_loops.are_pairs (first_none f fs none)) (pairs_shaped pairing new twins (i + 1) fs pairs rest (rest_none f fs none))))
+    (loops_shaped pairing f g (is_twin twins i) are_loops.old are_loops.new_side loops are_loops.are_pairs named) (pairs_shaped pairing partners new twins (i + 1) fs pairs rest (rest_none f fs none) news)))
 
 units_shaped : (word : List ℕ) → HasNoLineEnd word → (name : List ℕ) → HasNoLineEnd name → (numbers : List (Option ℕ)) → All IsLine (unit_lines word name numbers)
 units_shaped word plain name none [] = All-nil IsLine
 units_shaped word plain name none (n ∷ numbers) =
     All-cons IsLine (word ++ unit_text name n ++ 10 ∷ []) (unit_lines word name numbers) (line_of word (unit_text name n) plain (unit_none name n none)) (units_shaped word plain name none numbers)
 
-only_shaped : (word : List ℕ) → HasNoLineEnd word → (others fs : List Function) → NamesNone fs → All IsLine (only_lines word others fs)
-only_shaped word plain others [] none = All-nil IsLine
-only_shaped word plain others (f ∷ fs) none =
-    All-append IsLine (unit_lines word f.name (units_alone others f)) (only_lines word others fs) (units_shaped word plain f.name (first_none f fs none) (units_alone others f)) (only_shaped word plain others fs (rest_none f fs none))
+only_shaped : (word : List ℕ) → HasNoLineEnd word → (partners : List (Option ℕ)) (others : List Function) (i : ℕ) (fs : List Function) → NamesNone fs → All IsLine (only_lines word partners others i fs)
+only_shaped word plain partners others i [] none = All-nil IsLine
+only_shaped word plain partners others i (f ∷ fs) none =
+    All-append IsLine (unit_lines word f.name (units_alone partners others i f)) (only_lines word partners others (i + 1) fs) (units_shaped word plain f.name (first_none f fs none) (units_alone partners others i f))
+    (only_shaped word plain partners others (i + 1) fs (rest_none f fs none))
 
 -- ---- counts
 
@@ -144,15 +167,15 @@ counts_shaped full all =
     (joined (codes " partial 0 different 0 unknown ") (decimal (all - full)) (literal (codes " partial 0 different 0 unknown ") refl) (number_none (all - full))))))
 
 -- each line of a report
-pub report_shaped : (old new : Program) (pairing : Pairing) (twins : Option Pairing) (pairs : List PairVerdict) → ArePairs pairing new.functions twins 0 old.functions pairs →
-    NamesNone old.functions → NamesNone new.functions → length old.functions ≤ 2 ^ 32 → All IsLine (report_lines old new pairs)
-report_shaped old new pairing twins pairs are_pairs olds news few =
-    let only_old = only_lines (codes "only old: ") new.functions old.functions in
-    let only_new = only_lines (codes "only new: ") old.functions new.functions in
+pub report_shaped : (functions : FunctionPairs) (old new : Program) (pairing : Pairing) (twins : Option Pairing) (pairs : List PairVerdict) → ArePairs pairing functions.of_old new.functions twins 0 old.functions pairs →
+    NamesNone old.functions → NamesNone new.functions → All IsLine (report_lines functions old new pairs)
+report_shaped functions old new pairing twins pairs are_pairs olds news =
+    let only_old = only_lines (codes "only old: ") functions.of_old new.functions 0 old.functions in
+    let only_new = only_lines (codes "only new: ") functions.of_new old.functions 0 new.functions in
     let counts = counts_of (full_among pairs) (length pairs) in
-    let first : All IsLine (pair_lines pairs) = pairs_shaped pairing new.functions twins 0 old.functions pairs are_pairs olds in
-    let second : All IsLine only_old = only_shaped (codes "only old: ") (literal (codes "only old: ") refl) new.functions old.functions olds in
-    let third : All IsLine only_new = only_shaped (codes "only new: ") (literal (codes "only new: ") refl) old.functions new.functions news in
+    let first : All IsLine (pair_lines pairs) = pairs_shaped pairing functions.of_old new.functions twins 0 old.functions pairs are_pairs olds news in
+    let second : All IsLine only_old = only_shaped (codes "only old: ") (literal (codes "only old: ") refl) functions.of_old new.functions 0 old.functions olds in
+    let third : All IsLine only_new = only_shaped (codes "only new: ") (literal (codes "only new: ") refl) functions.of_new old.functions 0 new.functions news in
     let last : IsLine counts = counts_shaped (full_among pairs) (length pairs) in
     All-append IsLine (pair_lines pairs ++ only_old ++ only_new) (counts ∷ []) (All-append IsLine (pair_lines pairs ++ only_old) only_new (All-append IsLine (pair_lines pairs) only_old first second) third) (only_this counts last)
 
@@ -176,3 +199,9 @@ NamesPlain = All (λ f. All (λ byte. byte ≢ 10) f.name)
 
 pub names_none : (functions : List Function) → NamesPlain functions → NamesNone functions
 names_none functions all k d h = no_line_end _ (all k d h)
+
+-- a place in a map, and why its line is refused
+pub line_said_none : (number : ℕ) (text : List ℕ) → HasNoLineEnd text → HasNoLineEnd (line_said number text)
+line_said_none number text none =
+    joined (codes ":" ++ (decimal number ++ codes ": ")) text
+    (joined (codes ":") (decimal number ++ codes ": ") (literal (codes ":") refl) (joined (decimal number) (codes ": ") (number_none number) (literal (codes ": ") refl))) none

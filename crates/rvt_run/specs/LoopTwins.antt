@@ -9,8 +9,8 @@ use Rattle.rvt_tree.specs.Same.{ArePaired}
 use Rattle.c_meaning.specs.Interfaces.{StandsIn, name_of, named_in_loop, declared_in_loop}
 use Rattle.c_meaning.specs.Twins.{IsClosed}
 use Rattle.twin_check.specs.Sets.{IsWithin}
-use Rattle.one_table.specs.Candidates.{candidates_of}
-use Rattle.one_table.specs.Twins.{AreTwinsOf}
+use Rattle.joint_programs.specs.declared.programs.JointPrograms.{JointPrograms}
+use Rattle.joint_twins.specs.Twins.{AreTwinsOver}
 use Rattle.loop_interfaces.specs.Loops.{loops_of}
 
 -- each of these locals has one name in both functions: in the trees a local is its number
@@ -33,15 +33,15 @@ AreNamedAlike _ _ = ⊥
 abbrev pub AllNamedAlike : Pairing → Program → Program → Type 0
 AllNamedAlike pairing old new = (f g : ℕ) → ArePaired pairing.functions f g → AreNamedAlike (slice_get old.functions f) (slice_get new.functions g)
 
--- The greatest closed set of twins of two files that have one table, in which the loops of twins stand on locals of the same names: so
--- their interfaces are the same, and locals of one name have one number.
-pub record AreLoopTwins (old new : Program) (twins : Pairing) : Type 0 where
+-- The greatest closed set of twins of two joint programs, in which the loops of twins stand on locals of the same names: so their
+-- interfaces are the same, and locals of one name have one number.
+pub record AreLoopTwins (joint : JointPrograms) (twins : Pairing) : Type 0 where
   pub all : Pairing
-  pub are : AreTwinsOf old new all
+  pub are : AreTwinsOver joint all
   pub within : IsWithin twins all
-  pub closed : IsClosed twins old new
-  pub alike : AllNamedAlike twins old new
-  pub greatest : (set : Pairing) → IsWithin set (candidates_of old new) → IsClosed set old new → AllNamedAlike set old new → IsWithin set twins
+  pub closed : IsClosed twins joint.old joint.new_side
+  pub alike : AllNamedAlike twins joint.old joint.new_side
+  pub greatest : (set : Pairing) → IsWithin set are.candidates → IsClosed set joint.old joint.new_side → AllNamedAlike set joint.old joint.new_side → IsWithin set twins
 
 -- those pairs of functions were taken out of which this isn't so, and no others
 pub record KeepsNamedAlike (old new : Program) (before after : Pairing) : Type 0 where

@@ -1,6 +1,6 @@
--- Pairs of functions of one name, and their verdicts.
-use Rattle.std.specs.Prelude.{◌≡◌, ℕ, ◌+◌, ◌^◌, ◌<◌, Bool, true, false, ◌&&◌, if◌then◌else◌, cond, List, [], ◌∷◌, ◌++◌, map, length, drop, Option, Some, None, slice_get}
-use Rattle.std.specs.Option.{is_none, is_some}
+-- Pairs of functions, and their verdicts.
+use Rattle.std.specs.Prelude.{◌≡◌, ℕ, ◌+◌, ◌^◌, ◌<◌, Bool, true, false, not, ◌&&◌, cond, List, [], ◌∷◌, ◌++◌, map, length, drop, Option, Some, None, slice_get}
+use Rattle.std.specs.Option.{is_some}
 use Rattle.rvt_tree.specs.declared.pairings.Pairing.{Pairing}
 use Rattle.rvt_tree.specs.declared.programs.Function.{Function}
 use Rattle.rvt_tree.specs.declared.programs.Local.{Local}
@@ -8,25 +8,31 @@ use Rattle.c_meaning.specs.Twins.{SameType, SameResult}
 use Rattle.loop_interfaces.specs.declared.interfaces.LoopInterface.{LoopInterface}
 use Rattle.loop_interfaces.specs.Loops.{loops_of, number_of}
 use Rattle.loop_interfaces.specs.NameOrder.{AreInterfaces}
-use Rattle.one_table.specs.Names.{named}
+use Rattle.function_pairs.specs.Units.{pair_name}
 use Rattle.rvt_run.specs.declared.pairs.Pair.{Pair}
 use Rattle.rvt_run.specs.declared.pairs.Verdict.{Verdict}
 use Rattle.rvt_run.specs.declared.pairs.Verdict.TheVariants.{Twin, Interface, Bodies}
 
--- ---- partners: functions of one name with a body
+-- ---- partners: the number of each function's partner in the other file, if it has one
 
--- a function that has a body
-abbrev pub with_body : Option Function → Option Function
-with_body None = None
-with_body (Some f) = if is_some f.body then Some f else None
+abbrev pub function_at : List Function → Option (Option ℕ) → Option Function
+function_at others (Some (Some g)) = slice_get others g
+function_at others _ = None
 
--- the function of the other file that a function is compared with
-abbrev pub partner_of : List Function → Function → Option Function
-partner_of others f = if is_some f.body then with_body (named others f.name) else None
+-- the function of the other file that the function of this number is compared with
+abbrev pub partner_at : List (Option ℕ) → List Function → ℕ → Option Function
+partner_at partners others number = function_at others (slice_get partners number)
+
+abbrev pub is_partner : Option (Option ℕ) → Bool
+is_partner (Some (Some g)) = true
+is_partner _ = false
+
+abbrev pub is_paired : List (Option ℕ) → ℕ → Bool
+is_paired list f = is_partner (slice_get list f)
 
 -- a function with a body that is compared with none
-abbrev pub is_alone : List Function → Function → Bool
-is_alone others f = is_some f.body && is_none (partner_of others f)
+abbrev pub is_alone : List (Option ℕ) → ℕ → Function → Bool
+is_alone partners number f = is_some f.body && not (is_paired partners number)
 
 -- ---- verdicts
 
@@ -48,14 +54,6 @@ IsVerdict pairing old new is_twin Twin = SameInterface pairing old new × (is_tw
 IsVerdict pairing old new is_twin Bodies = SameInterface pairing old new × (is_twin ≡ false)
 
 -- ---- twins, if the two files have one table
-
--- whether a function has a partner
-abbrev pub is_partner : Option (Option ℕ) → Bool
-is_partner (Some (Some g)) = true
-is_partner _ = false
-
-abbrev pub is_paired : List (Option ℕ) → ℕ → Bool
-is_paired list f = is_partner (slice_get list f)
 
 abbrev pub is_twin : Option Pairing → ℕ → Bool
 is_twin None f = false
@@ -94,12 +92,12 @@ IsLoopVerdict pairing f g are_twins a b Bodies = SameLoopInterface pairing f g a
 
 -- ---- the pairs of two files
 
--- the name of a function, the number of a loop if the pair is one of loops, and the verdict
+-- the printed name of two functions, the number of a loop if the pair is one of loops, and the verdict
 abbrev pub PairVerdict : Type 0
 PairVerdict = List ℕ × Option ℕ × Verdict
 
 abbrev pub said : Pair → PairVerdict
-said pair = (pair.name.now, pair.loop_number, pair.verdict)
+said pair = (pair_name pair.old_name.now pair.new_name.now, pair.loop_number, pair.verdict)
 
 -- the pairs of these loops of two functions: the first with the first, and so on, as far as there are two
 abbrev pub AreLoopPairs : Pairing → Function → Function → Bool → List LoopInterface → List LoopInterface → List PairVerdict → Type 0
@@ -107,7 +105,7 @@ AreLoopPairs pairing f g are_twins [] others pairs = pairs ≡ []
 AreLoopPairs pairing f g are_twins (a ∷ loops) [] pairs = pairs ≡ []
 AreLoopPairs pairing f g are_twins (a ∷ loops) (b ∷ others) [] = ⊥
 AreLoopPairs pairing f g are_twins (a ∷ loops) (b ∷ others) (pair ∷ pairs) =
-    (pair.0 ≡ f.name) × (pair.1 ≡ Some a.number) × (a.number < 2 ^ 32) × IsLoopVerdict pairing f g are_twins a b pair.2
+    (pair.0 ≡ pair_name f.name g.name) × (pair.1 ≡ Some a.number) × (a.number < 2 ^ 32) × IsLoopVerdict pairing f g are_twins a b pair.2
     × AreLoopPairs pairing f g are_twins loops others pairs
 
 -- the pairs of the loops of two functions
@@ -119,18 +117,18 @@ pub record AreLoops (pairing : Pairing) (f g : Function) (are_twins : Bool) (pai
   pub are_pairs : AreLoopPairs pairing f g are_twins old new_side pairs
 
 -- the pairs of these functions of the old file, of which the first has this number, in their order, each before those of its loops
-pub data ArePairs (pairing : Pairing) (new : List Function) (twins : Option Pairing) : ℕ → List Function → List PairVerdict → Type 0 where
-  no_more : (i : ℕ) → ArePairs pairing new twins i [] []
+pub data ArePairs (pairing : Pairing) (partners : List (Option ℕ)) (new : List Function) (twins : Option Pairing) : ℕ → List Function → List PairVerdict → Type 0 where
+  no_more : (i : ℕ) → ArePairs pairing partners new twins i [] []
   skipped : (i : ℕ) (f : Function) (fs : List Function) (pairs : List PairVerdict)
-      → partner_of new f ≡ None
-      → ArePairs pairing new twins (i + 1) fs pairs
-      → ArePairs pairing new twins i (f ∷ fs) pairs
+      → partner_at partners new i ≡ None
+      → ArePairs pairing partners new twins (i + 1) fs pairs
+      → ArePairs pairing partners new twins i (f ∷ fs) pairs
   paired : (i : ℕ) (f : Function) (fs : List Function) (pairs : List PairVerdict) (g : Function) (verdict : Verdict) (loops : List PairVerdict)
-      → partner_of new f ≡ Some g
+      → partner_at partners new i ≡ Some g
       → IsVerdict pairing f g (is_twin twins i) verdict
       → AreLoops pairing f g (is_twin twins i) loops
-      → ArePairs pairing new twins (i + 1) fs pairs
-      → ArePairs pairing new twins i (f ∷ fs) ((f.name, None, verdict) ∷ loops ++ pairs)
+      → ArePairs pairing partners new twins (i + 1) fs pairs
+      → ArePairs pairing partners new twins i (f ∷ fs) ((pair_name f.name g.name, None, verdict) ∷ loops ++ pairs)
 
 -- ---- units of one file that are compared with none
 
@@ -143,5 +141,6 @@ abbrev pub loop_numbers : Function → List ℕ
 loop_numbers f = map number_of (loops_of f)
 
 -- the function itself, where it has a body and no partner, and each loop of it that has none
-abbrev pub units_alone : List Function → Function → List (Option ℕ)
-units_alone others f = cond (is_alone others f) (None ∷ []) [] ++ map (λ number. Some number) (drop (loops_beside (partner_of others f)) (loop_numbers f))
+abbrev pub units_alone : List (Option ℕ) → List Function → ℕ → Function → List (Option ℕ)
+units_alone partners others i f =
+    cond (is_alone partners i f) (None ∷ []) [] ++ map (λ number. Some number) (drop (loops_beside (partner_at partners others i)) (loop_numbers f))

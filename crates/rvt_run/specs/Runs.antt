@@ -1,8 +1,7 @@
 -- What is said of the run of a function.
-use Rattle.std.specs.Prelude.{◌≡◌, ◌≢◌, ℕ, ◌+◌, List, [], ◌∷◌, ◌++◌, codes, length, slice_get, Option, Some, None, true}
+use Rattle.std.specs.Prelude.{◌≡◌, ◌≢◌, ℕ, ◌+◌, List, ◌++◌, codes, length, slice_get, Some, None, true}
 use Rattle.std.specs.Fmt.{decimal, signed_decimal}
 use Rattle.std.specs.Option.{is_some}
-use Rattle.rvt_num.specs.Number.{Number}
 use Rattle.rvt_num.specs.declared.values.End.{End}
 use Rattle.rvt_num.specs.declared.values.End.TheVariants.{Trapped, Returned}
 use Rattle.rvt_num.specs.declared.values.Trap.{Trap}

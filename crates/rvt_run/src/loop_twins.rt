@@ -1,29 +1,27 @@
-//! The twins of two files whose loops are twins too.
+//! The twins of two joint programs whose loops are twins too.
 
-ghost use Rattle.std.specs.Prelude.{◌↔◌, IfOk, IsTrue, MatchOption, OnOk, slice_get};
-ghost use Rattle.one_table.specs.Candidates.{candidates_of};
-ghost use Rattle.one_table.specs.Tables.{HaveOneTable};
+ghost use Rattle.std.specs.Prelude.{◌↔◌, IfOk, IsTrue, OnOk, slice_get};
+ghost use Rattle.joint_twins.specs.Twins.{AreTwinsOver};
 ghost use Rattle.rvt_run.specs.LoopTwins.{AreNamedSo, HaveOneNaming, AreNamedAlike, AreLoopTwins, KeepsNamedAlike};
 
+use joint_programs::JointPrograms;
 use loop_interfaces::{loop_interfaces, name_at};
-use one_table::twins;
 use rvt_tree::{Function, Pairing, Program};
 use std::alloc::{AllocError, Global};
 use twin_check::closed_twins;
 
-/// The greatest closed set of twins whose loops stand on locals of the same names, or `None` where the files have no one table.
+/// The greatest closed set of twins whose loops stand on locals of the same names, by the greatest closed set of twins.
 pub fn loop_twins(
     alloc: Global,
-    old: &Program,
-    new: &Program,
-) -> Result<Option<Pairing>, AllocError>
-    ensures { IfOk result (λ found. MatchOption found (HaveOneTable (candidates_of old.now new.now) old.now new.now → ⊥) (λ twins. AreLoopTwins old.now new.now twins)) }
+    joint: &JointPrograms,
+    twins: Pairing,
+) -> Result<Pairing, AllocError>
+    requires { AreTwinsOver joint.now twins }
+    ensures { IfOk result (λ found. AreLoopTwins joint.now found) }
 {
-    let Some(mut twins) = twins(alloc, old, new)? else {
-        return Ok(None)
-    };
-    take_out_renamed(alloc, old, new, &mut twins)?;
-    Ok(Some(closed_twins(old, new, twins)))
+    let mut twins = twins;
+    take_out_renamed(alloc, &joint.old, &joint.new_side, &mut twins)?;
+    Ok(closed_twins(&joint.old, &joint.new_side, twins))
 }
 
 /// Takes out each pair of functions in which a local of the interface of a loop has two names.

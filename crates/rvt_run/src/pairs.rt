@@ -1,17 +1,15 @@
-//! Pairs of functions of one name and of their loops, and their verdicts.
+//! Pairs of functions and of their loops, and their verdicts.
 
 ghost use Rattle.std.specs.Prelude.{◌≡◌, ◌^◌, ◌<◌, ◌≤◌, ◌↔◌, if◌then◌else◌, [], ◌∷◌, IfOk, IsTrue, Some, None, drop, length, map};
 ghost use Rattle.std.specs.Option.{option_copied};
-ghost use Rattle.one_table.specs.Names.{AreNumbers};
-ghost use Rattle.rvt_run.specs.Pairs.{ArePairs, AreLoops, AreLoopPairs, AreOneLoop, IsLoopVerdict, IsVerdict, partner_of, said};
+ghost use Rattle.function_pairs.specs.Units.{pair_name};
+ghost use Rattle.rvt_run.specs.Pairs.{ArePairs, AreLoops, AreLoopPairs, AreOneLoop, IsLoopVerdict, IsVerdict, partner_at, said};
 ghost use Rattle.rvt_run.specs.Pairs as spec;
 ghost use Rattle.rvt_run.specs.Report.{full_among, verdict_text};
 
 use crate::interfaces::{same_interface, same_loop_interface};
-use indexmap::IndexMap;
 use loop_interfaces::{LoopInterface, loop_interfaces, loop_numbers};
-use one_table::{find, numbers};
-use rvt_tree::{Function, Pairing};
+use rvt_tree::{Function, Name, Pairing};
 use std::alloc::{AllocError, Global};
 
 /// The verdict of a pair.
@@ -33,10 +31,11 @@ pub fn text_of(verdict: Verdict) -> &'static [u8]
     }
 }
 
-/// A pair of functions of one name, or of loops of two such functions, and its verdict.
+/// A pair of functions, or of loops of two functions that are a pair, and its verdict.
 #[derive(Clone, Copy, Drop)]
 pub struct Pair<'a> {
-    pub name: &'a [u8],
+    pub old_name: &'a Name,
+    pub new_name: &'a Name,
     pub loop_number: Option<u32>,
     pub verdict: Verdict,
 }
@@ -45,16 +44,16 @@ pub struct Pair<'a> {
 pub fn pairs<'a>(
     alloc: Global,
     old: &'a [Function],
-    new: &[Function],
+    new: &'a [Function],
+    partners: &[Option<u32>],
     pairing: &Pairing,
     twins: &Option<Pairing>,
 ) -> Result<Vec<Pair<'a>>, AllocError>
-    ensures { IfOk result (λ pairs. ArePairs pairing.now new.now twins.now 0 old.now (map said pairs.items)) }
+    ensures { IfOk result (λ pairs. ArePairs pairing.now partners.now new.now twins.now 0 old.now (map said pairs.items)) }
 {
-    let numbers = numbers(alloc, new)?;
     let mut pairs = Vec::new(alloc);
     for (i, function) in old.iter().enumerate() {
-        let other = match partner(&numbers, new, function) {
+        let other = match partner(partners, new, i) {
             Some(other) => other,
             None => continue,
         };
@@ -66,37 +65,29 @@ pub fn pairs<'a>(
     Ok(pairs)
 }
 
-/// The function of the other file that a function is compared with: both have one name and a body.
+/// The function of the other file that the function of this number is compared with.
 fn partner<'a>(
-    numbers: &IndexMap<&[u8], u32>,
+    partners: &[Option<u32>],
     others: &'a [Function],
-    function: &Function,
+    number: usize,
 ) -> Option<&'a Function>
-    requires { AreNumbers numbers.now others.now }
-    ensures { option_copied result ≡ partner_of others.now function.now }
+    ensures { option_copied result ≡ partner_at partners.now others.now number }
 {
-    if function.body.is_none() {
-        return None;
+    match partners.get(number) {
+        Some(Some(other)) => others.get(*other as usize),
+        _ => None,
     }
-    let Some(other) = find(numbers, others, function.name.bytes()) else {
-        return None
-    };
-    if other.body.is_none() {
-        return None;
-    }
-    Some(other)
 }
 
 /// Whether a function has a body and is compared with none.
-pub fn is_alone(numbers: &IndexMap<&[u8], u32>, others: &[Function], function: &Function) -> bool
-    requires { AreNumbers numbers.now others.now }
-    ensures { result ≡ spec.is_alone others.now function.now }
+fn is_alone(partners: &[Option<u32>], function: &Function, number: usize) -> bool
+    ensures { result ≡ spec.is_alone partners.now number function.now }
 {
-    function.body.is_some() && partner(numbers, others, function).is_none()
+    function.body.is_some() && !is_paired(partners, number)
 }
 
-fn judged<'a>(old: &'a Function, new: &Function, pairing: &Pairing, is_twin: bool) -> Pair<'a>
-    ensures name { result.name.now ≡ old.now.name }
+fn judged<'a>(old: &'a Function, new: &'a Function, pairing: &Pairing, is_twin: bool) -> Pair<'a>
+    ensures name { pair_name result.old_name.now result.new_name.now ≡ pair_name old.now.name new.now.name }
     ensures no_loop { result.loop_number ≡ None }
     ensures verdict { IsVerdict pairing.now old.now new.now is_twin result.verdict }
 {
@@ -108,7 +99,8 @@ fn judged<'a>(old: &'a Function, new: &Function, pairing: &Pairing, is_twin: boo
         Verdict::Bodies
     };
     Pair {
-        name: old.name.bytes(),
+        old_name: &old.name,
+        new_name: &new.name,
         loop_number: None,
         verdict,
     }
@@ -119,14 +111,14 @@ fn is_twin(twins: &Option<Pairing>, number: usize) -> bool
 {
     match twins {
         None => false,
-        Some(twins) => is_paired(twins, number),
+        Some(twins) => is_paired(twins.functions.as_slice(), number),
     }
 }
 
-fn is_paired(pairing: &Pairing, number: usize) -> bool
-    ensures { result ≡ spec.is_paired pairing.now.functions number }
+fn is_paired(partners: &[Option<u32>], number: usize) -> bool
+    ensures { result ≡ spec.is_paired partners.now number }
 {
-    match pairing.functions.get(number) {
+    match partners.get(number) {
         Some(Some(_)) => true,
         _ => false,
     }
@@ -138,7 +130,7 @@ fn is_paired(pairing: &Pairing, number: usize) -> bool
 fn loop_pairs<'a>(
     alloc: Global,
     old: &'a Function,
-    new: &Function,
+    new: &'a Function,
     pairing: &Pairing,
     are_twins: bool,
 ) -> Result<Vec<Pair<'a>>, AllocError>
@@ -164,13 +156,13 @@ fn loop_pairs<'a>(
 
 fn judged_loop<'a>(
     old: &'a Function,
-    new: &Function,
+    new: &'a Function,
     pairing: &Pairing,
     are_twins: bool,
     a: &LoopInterface,
     b: &LoopInterface,
 ) -> Pair<'a>
-    ensures name { result.name.now ≡ old.now.name }
+    ensures name { pair_name result.old_name.now result.new_name.now ≡ pair_name old.now.name new.now.name }
     ensures number { result.loop_number ≡ Some a.now.number }
     ensures small { a.now.number < 2 ^ 32 }
     ensures verdict { IsLoopVerdict pairing.now old.now new.now are_twins a.now b.now result.verdict }
@@ -186,7 +178,8 @@ fn judged_loop<'a>(
     };
     let number = carried(a.number);
     Pair {
-        name: old.name.bytes(),
+        old_name: &old.name,
+        new_name: &new.name,
         loop_number: Some(number),
         verdict,
     }
@@ -215,16 +208,16 @@ fn are_one_loop(a: &LoopInterface, b: &LoopInterface) -> bool
 /// The function itself, where it has a body and no partner, and each loop of it that has none, by its number.
 pub fn units_alone(
     alloc: Global,
-    numbers: &IndexMap<&[u8], u32>,
+    partners: &[Option<u32>],
     others: &[Function],
     function: &Function,
+    number: usize,
 ) -> Result<Vec<Option<u32>>, AllocError>
-    requires { AreNumbers numbers.now others.now }
-    ensures { IfOk result (λ units. units.items ≡ spec.units_alone others.now function.now) }
+    ensures { IfOk result (λ units. units.items ≡ spec.units_alone partners.now others.now number function.now) }
 {
-    let mut units = own_unit(alloc, is_alone(numbers, others, function))?;
+    let mut units = own_unit(alloc, is_alone(partners, function, number))?;
     let loops = loop_numbers(alloc, function)?;
-    let beside = loops_beside(alloc, partner(numbers, others, function))?;
+    let beside = loops_beside(alloc, partner(partners, others, number))?;
     'loops: for number in behind(loops.as_slice(), beside) {
         units.push(Some(*number))?;
     }

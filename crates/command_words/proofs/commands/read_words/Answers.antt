@@ -1,5 +1,5 @@
-use Rattle.std.proofs.Common.{◌≡◌, List, ℕ, ◌∷◌, drop, sym, ◌∙◌, subst}
-use Rattle.std.specs.Prelude.{IfOk, IfSome, IfNone, map}
+use Rattle.std.proofs.Common.{List, ℕ, sym, ◌∙◌, subst}
+use Rattle.std.specs.Prelude.{IfOk, IfSome, IfNone}
 use Rattle.std.specs.String.{string_bytes}
 use Rattle.std.proofs.lemmas.Slice.Eq.{bytes_eq-Decides}
 use Rattle.command_words.specs.declared.options.Verb.TheVariants.{Compare, Run}

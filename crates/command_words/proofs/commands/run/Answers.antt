@@ -1,4 +1,4 @@
-use Rattle.std.proofs.Common.{◌≡◌, List, ℕ, Option, [], ◌∷◌, sym, ◌∙◌, ap, subst, refl}
+use Rattle.std.proofs.Common.{◌≡◌, List, ℕ, Option, ◌∷◌, sym, ◌∙◌, ap, subst}
 use Rattle.std.specs.Prelude.{map}
 use Rattle.std.specs.String.{string_bytes}
 use Rattle.command_words.specs.declared.lines.Setting.{Setting as Set}
@@ -22,7 +22,7 @@ returns-in-None-once-clause-none c = λ command is.
 pub returns-in-None-steps_of-clause-none : goal.returns-in-None-steps_of-clause-none
 returns-in-None-steps_of-clause-none c = λ command is.
     let fits = this_line Run (map string_bytes c.args.words.now) c.in_ok-line.field-0 c.in-Some.line c.in_ok-line.ensures c.in-Some.is command is in
-    let same : fits.3 ≡ value_in c.in-Some-once.value = one_value (settings_in c.in-Some.line) (map setting_of c.as_slice.result.now) fits.3 (value_in c.in-Some-once.value) (ap (map setting_of) (sym c.as_slice.ensures.value)) fits.6 c.in-Some-once.ensures.some in
+    let same : fits.3 ≡ value_in c.in-Some-once.value = one_value Steps (settings_in c.in-Some.line) (map setting_of c.as_slice.result.now) fits.3 (value_in c.in-Some-once.value) (ap (map setting_of) (sym c.as_slice.ensures.value)) fits.6 c.in-Some-once.ensures.some in
     c.in-None-steps_of.ensures.none fits.4 (subst (λ (v : Option (List ℕ)). AreSteps v fits.4) same fits.7)
 
 pub returns-in-None-first_two-clause-none : goal.returns-in-None-first_two-clause-none

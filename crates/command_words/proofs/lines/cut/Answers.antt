@@ -1,5 +1,4 @@
-use Rattle.std.proofs.Common.{◌≡◌, Option, Some, None, List, ℕ, ◌∷◌, ◌++◌, lit<, sym, ◌∙◌, ap}
-use Rattle.std.specs.Borrow.{Bor}
+use Rattle.std.proofs.Common.{Some, None, List, ℕ, lit<, sym, ◌∙◌, ap}
 use Rattle.std.proofs.lemmas.Str.Pattern.{split_parts}
 use Rattle.command_words.specs.Spellings.{cut}
 use Rattle.command_words.proofs.SpellingLemmas.{Cut, cut_none, cut_some}

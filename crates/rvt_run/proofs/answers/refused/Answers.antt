@@ -1,6 +1,6 @@
 use Rattle.std.proofs.Common.{◌≢◌, [], ◌∷◌, ◌∙◌, refl, sym, subst}
 use Rattle.std.specs.Prelude.{All}
-use Rattle.rvt_run.specs.Answer.{line}
+use Rattle.rvt_run.specs.Lines.{line}
 use Rattle.rvt_run.specs.Texts.{HasNoLineEnd}
 use Rattle.rvt_run.proofs.Results.{shaped_at}
 use Rattle.rvt_run.proofs.Shaped.{line_of, only_this, no_line_end}

@@ -1,5 +1,6 @@
 use Rattle.std.proofs.Common.{◌≡◌, ◌++◌, [], ◌∷◌, List, Some, ◌∙◌, ap, sym, subst}
 use Rattle.std.specs.Prelude.{map}
+use Rattle.function_pairs.specs.Units.{pair_name}
 use Rattle.rvt_run.specs.declared.pairs.Pair.{Pair}
 use Rattle.rvt_run.specs.Pairs.{PairVerdict, AreLoopPairs, said}
 use Rattle.rvt_run.proofs.Alike.{nil_of}
@@ -15,8 +16,8 @@ loops-preserved c =
     let verdict = c.judged_loop.result.verdict in
     let made = map said c.loops.pairs.items in
     let whole : List PairVerdict → Type 0 = λ pairs. AreLoopPairs c.args.pairing.now f g c.args.are_twins c.as_slice-left.result.now c.as_slice-right.result.now pairs in
-    let pushed : map said c.push.new.self.items ≡ made ++ (f.name, Some a.number, verdict) ∷ [] =
-    ap (λ (l : List Pair). map said l) c.in_ok-push-in-Some-split_first.ensures.items ∙ said_push c.loops.pairs.items c.judged_loop.result f.name (Some a.number) c.judged_loop.ensures.name c.judged_loop.ensures.number in
+    let pushed : map said c.push.new.self.items ≡ made ++ (pair_name f.name g.name, Some a.number, verdict) ∷ [] =
+    ap (λ (l : List Pair). map said l) c.in_ok-push-in-Some-split_first.ensures.items ∙ said_push c.loops.pairs.items c.judged_loop.result (pair_name f.name g.name) (Some a.number) c.judged_loop.ensures.name c.judged_loop.ensures.number in
     subst (λ (pairs : List PairVerdict). Leads c.args.pairing.now f g c.args.are_twins whole c.in-Some.more.now c.in-Some-split_first.rest.now pairs) (sym pushed)
     (one_more c.args.pairing.now f g c.args.are_twins whole c.loops.left.now c.loops.right.now c.in-Some.more.now c.in-Some-split_first.rest.now a b verdict made c.in-Some.ensures.cases.0 c.in-Some-split_first.ensures.cases.0
     c.judged_loop.ensures.small c.judged_loop.ensures.verdict c.loops.invariant)

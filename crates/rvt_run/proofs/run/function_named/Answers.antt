@@ -1,5 +1,5 @@
-use Rattle.std.proofs.Common.{◌≡◌, List, ℕ, Option, Some, None, get_or, not, refl, sym, ◌∙◌, ap, subst}
-use Rattle.std.specs.Prelude.{bytes_eq, position, slice_get}
+use Rattle.std.proofs.Common.{◌≡◌, List, ℕ, Option, Some, None, get_or, not, sym, ◌∙◌, ap}
+use Rattle.std.specs.Prelude.{bytes_eq, slice_get}
 use Rattle.rvt_tree.specs.declared.programs.Function.{Function}
 use Rattle.rvt_run.proofs.RunSaid.{numbered_so, there_item, position_below, no_body}
 use Rattle.rvt_run.proofs.run.function_named.Goals as goal

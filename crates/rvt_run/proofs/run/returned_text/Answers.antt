@@ -1,5 +1,5 @@
-use Rattle.std.proofs.Common.{◌≡◌, ◌++◌, ◌-◌, ◌^◌, rules, subst}
-use Rattle.std.specs.Prelude.{codes, pos, negsuc, ◌≤ℤ◌}
+use Rattle.std.proofs.Common.{◌≡◌, ◌++◌, rules}
+use Rattle.std.specs.Prelude.{codes}
 use Rattle.std.specs.Fmt.{signed_decimal}
 use Rattle.std.specs.String.{string_bytes}
 use Rattle.rvt_run.proofs.RunSaid.{none_of, result_none}

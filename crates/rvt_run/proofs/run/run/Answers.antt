@@ -1,7 +1,8 @@
-use Rattle.std.proofs.Common.{◌≡◌, List, ℕ, [], ◌∷◌, subst, sym}
+use Rattle.std.proofs.Common.{List, ℕ, [], ◌∷◌, subst, sym}
 use Rattle.c_programs.specs.Readings.{IsFirstFault, NoReadingWhere}
 use Rattle.command_words.specs.Commands.{texts}
-use Rattle.rvt_run.specs.Answer.{Runs, file_refused, interpreted, refused_at, line}
+use Rattle.rvt_run.specs.Answer.{Runs, file_refused, interpreted, refused_at}
+use Rattle.rvt_run.specs.Lines.{line}
 use Rattle.rvt_run.specs.Runs.{IsRunAnswer}
 use Rattle.rvt_run.specs.Texts.{HasNoLineEnd}
 use Rattle.rvt_run.proofs.Results.{shaped_at}

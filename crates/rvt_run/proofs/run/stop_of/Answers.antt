@@ -1,4 +1,3 @@
-use Rattle.std.proofs.Common.{◌≡◌, ◌∙◌}
 use Rattle.rvt_run.proofs.RunSaid.{machine_stops}
 use Rattle.rvt_run.proofs.run.stop_of.Goals as goal
 

@@ -1,4 +1,4 @@
-use Rattle.std.proofs.Common.{Option, List, ℕ, sym, subst}
+use Rattle.std.proofs.Common.{List, ℕ, sym, subst}
 use Rattle.command_words.specs.Commands.{texts}
 use Rattle.rvt_run.specs.Answer.{IsWhole}
 use Rattle.rvt_run.proofs.Said.{asked_file, says_file, asked_read, says_read}

@@ -1,7 +1,7 @@
 use Rattle.std.proofs.Common.{[], ◌∷◌, refl, sym, subst}
 use Rattle.std.specs.Prelude.{codes}
 use Rattle.rvt_run.specs.Texts.{HasNoLineEnd}
-use Rattle.rvt_run.specs.Answer.{line}
+use Rattle.rvt_run.specs.Lines.{line}
 use Rattle.rvt_run.proofs.Results.{shaped_at}
 use Rattle.rvt_run.proofs.Shaped.{line_shaped}
 use Rattle.rvt_run.proofs.top.say_unread.Goals as goal
