@@ -4,3 +4,7 @@ pub mod Acts
 pub mod Cells
 pub mod Initializers
 pub mod Loops
+pub mod Statements
+pub mod Turning
+pub mod Selecting
+pub mod Bodies
