@@ -1,17 +1,15 @@
 -- The code of bodies.
-use Rattle.std.proofs.Common.{◌≡◌, ℕ, suc, List, [], ◌∷◌, ◌++◌, length, Option, Some, None, refl, ap}
+use Rattle.std.proofs.Common.{ℕ, suc, List, [], ◌∷◌, length, Some, None, refl, ap}
 use Rattle.rvt_tree.specs.declared.programs.Program.{Program}
-use Rattle.rvt_tree.specs.declared.statements.Stmt.{Stmt}
 use Rattle.rvt_tree.specs.Views.{stmt_view}
 use Rattle.c_meaning.specs.Laws.{LoopUnfolds, TestsSpend, BodiesSpend, RoundsSpend}
 use Rattle.c_tasks.specs.Tasks.{last_value}
-use Rattle.c_code.specs.Initializers.{Counts}
 use Rattle.c_code.specs.Statements.{statement_code}
 use Rattle.c_code.specs.Bodies.{body_code}
 use Rattle.c_code.specs.declared.instructions.Manner.TheVariants as M
 use Rattle.c_code.specs.declared.instructions.Instruction.{Instruction}
 use Rattle.c_code.specs.declared.instructions.Instruction.TheVariants as I
-use Rattle.code_laws.specs.Stands.{Spans, Stands, goes, ends}
+use Rattle.code_laws.specs.Stands.{Spans, goes, ends}
 use Rattle.code_laws.specs.Laws.{CodeOfBodies}
 use Rattle.code_laws.proofs.Spanning.{split}
 use Rattle.code_laws.proofs.Statements.{statement_stands}

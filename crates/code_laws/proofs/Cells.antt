@@ -1,5 +1,5 @@
 -- The cells that initializers give, among the values that wait.
-use Rattle.std.proofs.Common.{◌≡◌, ℕ, zero, suc, ◌+◌, ◌-◌, List, [], ◌∷◌, ◌++◌, length, length-append, Bool, true, false, if◌then◌else◌, refl, sym, ap, ◌∙◌, subst, arith}
+use Rattle.std.proofs.Common.{◌≡◌, ℕ, zero, suc, ◌+◌, ◌-◌, List, [], ◌∷◌, ◌++◌, length, length-append, Bool, true, false, if◌then◌else◌, refl, sym, ap, ◌∙◌, arith}
 use Rattle.std.proofs.lemmas.List.{length-reverse, reverse-append, reverse-reverse}
 use Rattle.std.proofs.Math.Seq.{take-append-add}
 use Rattle.std.proofs.Math.Dec.{leb-zero, leb-suc-zero, leb-suc-suc}
@@ -14,8 +14,7 @@ use Rattle.c_meaning.specs.Runs.{stepping}
 use Rattle.c_tasks.specs.Operands.{Operands, with_value, with_values, onto}
 use Rattle.c_tasks.specs.Tasks.{Rest, evaluating}
 use Rattle.c_tasks.proofs.Sequences.{then_alike, one_part, two_parts}
-use Rattle.c_code.specs.Initializers.{Counts, least, cells_in, cells_in_members}
-use Rattle.c_code.specs.declared.instructions.Instruction.{Instruction}
+use Rattle.c_code.specs.Initializers.{least, cells_in, cells_in_members}
 use Rattle.c_code.specs.declared.instructions.Instruction.TheVariants as I
 use Rattle.code_laws.specs.Effects.{effect, last_values, values_from}
 use Rattle.code_laws.proofs.Values.{Gives, alike_where, reversed_on}

@@ -1,12 +1,12 @@
 -- The code of initializers.
-use Rattle.std.proofs.Common.{◌≡◌, ℕ, zero, suc, ◌+◌, ◌-◌, List, [], ◌∷◌, ◌++◌, length, refl, sym, ap, ◌∙◌, subst, arith}
+use Rattle.std.proofs.Common.{◌≡◌, ℕ, zero, suc, ◌+◌, ◌-◌, List, [], ◌∷◌, length, refl, sym, ap, ◌∙◌, subst, arith}
 use Rattle.std.proofs.lemmas.List.{length-map}
 use Rattle.std.specs.Prelude.{take, drop, map}
 use Rattle.rvt_num.specs.declared.values.Value.{Value}
 use Rattle.rvt_tree.specs.declared.expressions.Variable.{Variable}
 use Rattle.rvt_tree.specs.declared.programs.Program.{Program}
 use Rattle.rvt_tree.specs.Syntax.{Initializer, initial_value, braces, Initializers, no_initializers, initializer, declaration_with}
-use Rattle.c_meaning.specs.Outcomes.{State, Normally, go_on, and_then}
+use Rattle.c_meaning.specs.Outcomes.{State, and_then}
 use Rattle.c_meaning.specs.Stores.{cleared, cells_of, with_cells}
 use Rattle.c_meaning.specs.Statements.{initial_cells, put_cells}
 use Rattle.c_meaning.specs.Runs.{stepping}
@@ -19,7 +19,7 @@ use Rattle.c_code.specs.Statements.{declaring}
 use Rattle.c_code.specs.declared.instructions.Manner.TheVariants as M
 use Rattle.c_code.specs.declared.instructions.Instruction.{Instruction}
 use Rattle.c_code.specs.declared.instructions.Instruction.TheVariants as I
-use Rattle.code_laws.specs.Effects.{effect, last_values, values_from}
+use Rattle.code_laws.specs.Effects.{effect, values_from}
 use Rattle.code_laws.specs.Stands.{Spans, Stands, begins}
 use Rattle.code_laws.proofs.Spanning.{split, one}
 use Rattle.code_laws.proofs.Values.{value_stands, alike_where, last_of, below_of}

@@ -1,18 +1,17 @@
 -- The code of loops.
 use Rattle.std.proofs.Common.{◌≡◌, ℕ, zero, suc, ◌+◌, List, [], ◌∷◌, ◌++◌, length, length-append, Bool, true, false, if◌then◌else◌, Option, Some, None, refl, sym, ap, ◌∙◌, subst, arith}
-use Rattle.std.specs.Prelude.{slice_get}
 use Rattle.rvt_tree.specs.declared.programs.Program.{Program}
 use Rattle.rvt_tree.specs.Syntax.{Expression, Action, Statement, while_loop, do_loop, for_loop, Statements}
 use Rattle.c_meaning.specs.Outcomes.{State, Doing, Manner, Normally, Broke, Continued, give, go_on, and_then}
 use Rattle.c_meaning.specs.Stores.{holds}
 use Rattle.c_meaning.specs.Expressions.{value_of}
-use Rattle.c_meaning.specs.Statements.{test_of, after_round, after_body, acts, meaning}
+use Rattle.c_meaning.specs.Statements.{test_of, after_round, meaning}
 use Rattle.c_meaning.specs.Runs.{spend, step_at, stepping}
 use Rattle.c_meaning.specs.Laws.{LoopUnfolds, TestsSpend, BodiesSpend, RoundsSpend}
-use Rattle.c_tasks.specs.Operands.{Operands, top_value, with_value, without_value, with_manner}
+use Rattle.c_tasks.specs.Operands.{Operands, with_manner}
 use Rattle.c_tasks.specs.Tasks.{Rest, evaluating, ending, test_in, round_in, again, onward, decided, tested}
-use Rattle.c_tasks.proofs.Sequences.{then_alike, then_then, one_part}
-use Rattle.c_code.specs.Expressions.{value_code, truth_code}
+use Rattle.c_tasks.proofs.Sequences.{then_alike, one_part}
+use Rattle.c_code.specs.Expressions.{truth_code}
 use Rattle.c_code.specs.Initializers.{Counts}
 use Rattle.c_code.specs.Statements.{test_code, looping}
 use Rattle.c_code.specs.declared.instructions.When.TheVariants as W
@@ -138,8 +137,9 @@ module _ (program : Program) (d : ℕ) (counts : Counts) (code : List Instructio
       let start : suc first.0 ≡ head + suc (length (test_code test)) = omega (arith, on_first) in
       let exit = on_exit (suc second.0) second.2.1 in
       let turn = turns (length (test_code test ++ I.Finish ∷ round)) head fin next st second.2.0 back whole second.2.1.1 (λ on s. refl) exit in
-      let rounds = on_round (suc first.0) second.0 second.1 turn in
-      (test_stands st test is next goes_round head first.0 first.1
-      (jumps 0 (doing_a_round program d st next) (effect program d (I.End M.Normally) next) (W.Unless 0) (suc (length (round ++ I.Finish ∷ []))) first.2.0 (refl, refl) (λ on s. refl) (λ _. rounds)
-      (subst (λ n. S n 0 0 (effect program d (I.End M.Normally) next)) away exit)),
-      subst (λ n. S n 0 0 (doing_a_round program d st next)) start rounds)
+      let rounds = on_round (suc first.0) second.0 second.1 turn in (
+        test_stands st test is next goes_round head first.0 first.1
+            (jumps 0 (doing_a_round program d st next) (effect program d (I.End M.Normally) next) (W.Unless 0) (suc (length (round ++ I.Finish ∷ []))) first.2.0 (refl, refl) (λ on s. refl) (λ _. rounds)
+            (subst (λ n. S n 0 0 (effect program d (I.End M.Normally) next)) away exit)),
+        subst (λ n. S n 0 0 (doing_a_round program d st next)) start rounds,
+      )

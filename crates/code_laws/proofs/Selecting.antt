@@ -1,5 +1,5 @@
 -- The groups of a `switch`.
-use Rattle.std.proofs.Common.{◌≡◌, ◌≢◌, ℕ, suc, ◌+◌, List, [], ◌∷◌, ◌++◌, length, Bool, true, false, ◌||◌, if◌then◌else◌, Option, Some, None, refl, sym, ap, ◌∙◌, subst, arith}
+use Rattle.std.proofs.Common.{◌≡◌, ℕ, suc, ◌+◌, List, [], ◌∷◌, ◌++◌, length, Bool, true, false, ◌||◌, if◌then◌else◌, Option, Some, None, refl, sym, ap, ◌∙◌, subst, arith}
 use Rattle.std.specs.Prelude.{slice_get, unwrap_or}
 use Rattle.rvt_num.specs.Number.{Number}
 use Rattle.rvt_tree.specs.declared.statements.Label.{Label}
@@ -8,14 +8,14 @@ use Rattle.rvt_tree.specs.declared.programs.Program.{Program}
 use Rattle.rvt_tree.specs.Syntax.{compound, Statements, Groups, no_groups, labelled}
 use Rattle.c_meaning.specs.Outcomes.{State, Doing, Manner, Normally, give, and_then}
 use Rattle.c_meaning.specs.Stores.{number_of}
-use Rattle.c_meaning.specs.Statements.{after_group, is_case, is_default, any, or_else, declared_in, in_scope, meaning, block, group}
+use Rattle.c_meaning.specs.Statements.{after_group, is_case, is_default, any, or_else, meaning, group}
 use Rattle.c_meaning.specs.Runs.{stepping}
 use Rattle.c_meaning.specs.Laws.{LoopUnfolds, TestsSpend, BodiesSpend, RoundsSpend}
 use Rattle.c_tasks.specs.Operands.{Operands, top_value, without_value, with_manner}
 use Rattle.c_tasks.specs.Tasks.{Rest, ending, running_statement, chosen_group, selecting}
 use Rattle.c_tasks.proofs.Sequences.{one_part}
 use Rattle.c_code.specs.Initializers.{Counts}
-use Rattle.c_code.specs.Statements.{leaving, label_code, labels_code, group_code, block_code, groups_code}
+use Rattle.c_code.specs.Statements.{leaving, labels_code, group_code, block_code, groups_code}
 use Rattle.c_code.specs.declared.instructions.Instruction.{Instruction}
 use Rattle.c_code.specs.declared.instructions.Instruction.TheVariants as I
 use Rattle.code_laws.specs.Stands.{Spans, Stands, goes, skips}
@@ -87,11 +87,13 @@ module _ (program : Program) (unfolds : LoopUnfolds program) (tests : TestsSpend
         let first = split code from fin (group_code labels own) (groups_code counts rest) spans in
         let second = split code (suc from) first.0 (labels_code labels) own first.1.1 in
         let number : count ≡ length (labels_code labels) = ap labels_in (sym at ∙ first.1.0) in
-        let meets_it : any test labels ≡ true = sym (meet_alike code test labels (suc from) second.0 second.1) ∙ ap (one_meets test code (suc from)) (sym number) ∙ meet in
-        (body, ap (λ b. if b then Some (meaning program (stepping program d) (compound body)) else group program (stepping program d) (any test) rest) meets_it,
-        labels_stand labels (suc from) second.0 (running_statement program d (compound body) leaving_it) second.1
-        (scope_stands program d counts code body leaving_it second.0 first.0 (λ middle k spans after. block_stands program d counts code unfolds tests bodies rounds body second.0 middle k spans after) second.2
-        (passed rest first.0 fin leaving_it first.2 after)))
+        let meets_it : any test labels ≡ true = sym (meet_alike code test labels (suc from) second.0 second.1) ∙ ap (one_meets test code (suc from)) (sym number) ∙ meet in (
+          body,
+          ap (λ b. if b then Some (meaning program (stepping program d) (compound body)) else group program (stepping program d) (any test) rest) meets_it,
+          labels_stand labels (suc from) second.0 (running_statement program d (compound body) leaving_it) second.1
+              (scope_stands program d counts code body leaving_it second.0 first.0 (λ middle k spans after. block_stands program d counts code unfolds tests bodies rounds body second.0 middle k spans after) second.2
+              (passed rest first.0 fin leaving_it first.2 after)),
+        )
     search test (labelled labels body rest) from spans found place (further count n at meet more) =
         let own = block_code counts body ++ leaving body in
         let first = split code from fin (group_code labels own) (groups_code counts rest) spans in

@@ -1,29 +1,28 @@
 -- The code of statements.
-use Rattle.std.proofs.Common.{◌≡◌, ℕ, zero, suc, ◌+◌, List, [], ◌∷◌, ◌++◌, length, length-append, Bool, true, false, if◌then◌else◌, Option, Some, None, refl, sym, ap, ◌∙◌, subst, arith}
-use Rattle.std.specs.Prelude.{slice_get}
+use Rattle.std.proofs.Common.{◌≡◌, ℕ, suc, ◌+◌, List, [], ◌∷◌, ◌++◌, length, length-append, if◌then◌else◌, Option, Some, refl, sym, ap, ◌∙◌, subst, arith}
 use Rattle.rvt_tree.specs.declared.expressions.Variable.{Variable}
 use Rattle.rvt_tree.specs.declared.expressions.Variable.TheVariants as V
 use Rattle.rvt_tree.specs.declared.programs.Program.{Program}
-use Rattle.rvt_tree.specs.Syntax.{Expression, Action, Initializer, Statement, compound, null_statement, action, declaration, declaration_with, break_statement, continue_statement, return_statement, return_value, if_statement, if_else, while_loop, do_loop, for_loop, switch, Statements, no_statements, statement, Groups}
+use Rattle.rvt_tree.specs.Syntax.{Expression, Action, Statement, compound, null_statement, action, declaration, declaration_with, break_statement, continue_statement, return_statement, return_value, if_statement, if_else, while_loop, do_loop, for_loop, switch, Statements, no_statements, statement, Groups}
 use Rattle.c_meaning.specs.Outcomes.{State, Doing, Manner, Normally, Broke, Continued, give, leave, go_on, and_then}
-use Rattle.c_meaning.specs.Stores.{number_of, holds, cleared, cells_of}
+use Rattle.c_meaning.specs.Stores.{number_of, holds}
 use Rattle.c_meaning.specs.Expressions.{value_of}
-use Rattle.c_meaning.specs.Statements.{test_of, after_round, after_body, after_group, act, acts, normally_then, declared_variable, declared_in, locals_without, left_scope, in_scope, meaning, block, put_cells, cleared_cells}
-use Rattle.c_meaning.specs.Runs.{spend, stepping}
+use Rattle.c_meaning.specs.Statements.{after_round, after_body, after_group, act, acts, normally_then, declared_variable, declared_in, locals_without, left_scope, meaning, block}
+use Rattle.c_meaning.specs.Runs.{stepping}
 use Rattle.c_meaning.specs.Laws.{LoopUnfolds, TestsSpend, BodiesSpend, RoundsSpend}
-use Rattle.c_tasks.specs.Operands.{Operands, top_value, with_value, without_value, with_manner}
-use Rattle.c_tasks.specs.Tasks.{Rest, evaluating, acting, acting_all, ending, running_statement, running_block, test_in, round_in, again, onward, decided, tested, chosen_group, selecting}
-use Rattle.c_tasks.proofs.Sequences.{then_alike, then_then, one_part}
-use Rattle.c_code.specs.Expressions.{passing, choosing, value_code, truth_code}
+use Rattle.c_tasks.specs.Operands.{Operands, top_value, with_manner}
+use Rattle.c_tasks.specs.Tasks.{Rest, evaluating, acting, acting_all, ending, running_statement, running_block, again, tested, chosen_group, selecting}
+use Rattle.c_tasks.proofs.Sequences.{then_alike, one_part}
+use Rattle.c_code.specs.Expressions.{passing, choosing, value_code}
 use Rattle.c_code.specs.Acts.{act_code, acts_code}
-use Rattle.c_code.specs.Initializers.{Counts, count_of}
+use Rattle.c_code.specs.Initializers.{Counts}
 use Rattle.c_code.specs.Statements.{forgetting, left_by, leaving, test_code, looping, statement_code, block_code, rest_code, groups_code}
 use Rattle.c_code.specs.declared.instructions.When.TheVariants as W
 use Rattle.c_code.specs.declared.instructions.Manner.TheVariants as M
 use Rattle.c_code.specs.declared.instructions.Instruction.{Instruction}
 use Rattle.c_code.specs.declared.instructions.Instruction.TheVariants as I
 use Rattle.code_laws.specs.Effects.{effect}
-use Rattle.code_laws.specs.Stands.{Spans, Stands, goes, jumps, selects, ends, jumping, loop_code, is_break, is_abrupt}
+use Rattle.code_laws.specs.Stands.{Spans, Stands, goes, jumps, selects, ends, jumping, is_break, is_abrupt}
 use Rattle.code_laws.specs.Laws.{testing}
 use Rattle.code_laws.proofs.Spanning.{split, length_of_span, alike, one, choice}
 use Rattle.code_laws.proofs.Values.{value_stands, chosen}
@@ -183,7 +182,7 @@ module _ (program : Program) (d : ℕ) (counts : Counts) (code : List Instructio
     while_stands number test body on_body from to next spans after =
         let st = while_loop number test body in
         let whole = loop_stands program d counts code st (Some test) refl (statement_code counts body) next (rounds_while program unfolds tests bodies rounds d number test body) (suc from) to spans.1 spans.1
-            (λ start middle spans behind. on_body start middle (after_a_round program d st next) spans behind) (exit_stands to next after) in
+        (λ start middle spans behind. on_body start middle (after_a_round program d st next) spans behind) (exit_stands to next after) in
         goes 0 0 (testing program d st next) I.Spend spans.0 (refl, refl)
         (λ on s. ap (go_on (λ manner. next (with_manner manner on))) (again_while program unfolds tests bodies rounds d number test body s) ∙ spending program d st next on s) whole.0
 
@@ -191,7 +190,7 @@ module _ (program : Program) (d : ℕ) (counts : Counts) (code : List Instructio
     do_stands number body test on_body from to next spans after =
         let st = do_loop number body test in
         let whole = loop_stands program d counts code st (Some test) refl (statement_code counts body) next (rounds_do program unfolds tests bodies rounds d number body test) (suc from) to spans.1 spans.1
-            (λ start middle spans behind. on_body start middle (after_a_round program d st next) spans behind) (exit_stands to next after) in
+        (λ start middle spans behind. on_body start middle (after_a_round program d st next) spans behind) (exit_stands to next after) in
         let start : suc from + suc (length (value_code test 0 0)) ≡ from + suc (length (value_code test 0 0 ++ I.Finish ∷ [])) = omega (arith, length-append (value_code test 0 0) (I.Finish ∷ [])) in
         jumps 0 (doing_a_round program d st next) (doing_a_round program d st next) W.Always (suc (length (value_code test 0 0 ++ I.Finish ∷ []))) spans.0 refl
         (λ on s. ap (go_on (λ manner. next (with_manner manner on))) (again_do program unfolds tests bodies rounds d number body test s)
@@ -218,7 +217,7 @@ module _ (program : Program) (d : ℕ) (counts : Counts) (code : List Instructio
         let second = split code (suc parts.0) to loop (leaving first) parts.2.1 in
         let out = left program d (declared_in first) next in
         let whole = loop_stands program d counts code st test refl (statement_code counts body ++ passing W.Broke (acts_code last)) out (rounds_for program unfolds tests bodies rounds d number first test last body) (suc parts.0) second.0 second.1 second.1
-            (λ start middle spans behind. for_round number first test last body out on_body start middle spans behind) (exit_stands second.0 out (leaving_stands first second.0 to next second.2 after)) in
+        (λ start middle spans behind. for_round number first test last body out on_body start middle spans behind) (exit_stands second.0 out (leaving_stands first second.0 to next second.2 after)) in
         alike program d counts code from 0 0 (running_block program d first (ending program d (again program d st) out)) (running_statement program d st next)
         (λ on s. sym (one_part (and_then (block program (stepping program d) first) (λ _. again program d st)) (left_scope (declared_in first)) (λ manner. next (with_manner manner on)) s)
         ∙ sym (one_part (block program (stepping program d) first) (λ _. again program d st) (λ manner. out (with_manner manner on)) s))

@@ -4,7 +4,7 @@ use Rattle.rvt_num.specs.Number.{Number}
 use Rattle.rvt_tree.specs.declared.statements.Stmt.{Stmt}
 use Rattle.rvt_tree.specs.declared.programs.Program.{Program}
 use Rattle.rvt_tree.specs.Syntax.{Expression, Action, Statement, Groups}
-use Rattle.c_meaning.specs.Outcomes.{State, Manner, Normally, and_then}
+use Rattle.c_meaning.specs.Outcomes.{State, Normally, and_then}
 use Rattle.c_meaning.specs.Stores.{number_of}
 use Rattle.c_meaning.specs.Statements.{test_of, after_round, after_group, is_case, is_default}
 use Rattle.c_meaning.specs.Runs.{spend, stepping, body_of}

@@ -1,5 +1,5 @@
 -- The search for the group of a `switch`, in its code.
-use Rattle.std.specs.Prelude.{◌≡◌, ◌≢◌, ℕ, zero, suc, ◌+◌, List, slice_get, Option, Some, None, Bool, true, false, ◌||◌, if◌then◌else◌}
+use Rattle.std.specs.Prelude.{◌≡◌, ◌≢◌, ℕ, zero, suc, ◌+◌, List, slice_get, Option, Some, Bool, true, false, ◌||◌, if◌then◌else◌}
 use Rattle.rvt_tree.specs.declared.statements.Label.{Label}
 use Rattle.rvt_tree.specs.declared.statements.Label.TheVariants.{Case, Default}
 use Rattle.c_meaning.specs.Outcomes.{Normally}
