@@ -1,3 +1,10 @@
 pub mod Spanning
 pub mod Values
 pub mod Acts
+pub mod Cells
+pub mod Initializers
+pub mod Loops
+pub mod Statements
+pub mod Turning
+pub mod Selecting
+pub mod Bodies

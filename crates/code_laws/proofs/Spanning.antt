@@ -10,7 +10,7 @@ use Rattle.c_code.specs.Initializers.{Counts}
 use Rattle.c_code.specs.declared.instructions.Instruction.{Instruction}
 use Rattle.c_code.specs.declared.instructions.Instruction.TheVariants as I
 use Rattle.code_laws.specs.Effects.{effect, Heights}
-use Rattle.code_laws.specs.Stands.{Spans, Stands, goes, jumps, skips, turns, selects, ends, ending_by, jumping}
+use Rattle.code_laws.specs.Stands.{Spans, Stands, goes, begins, jumps, skips, turns, selects, ends, ending_by, jumping}
 
 pub split : (code : List Instruction) (from to : ℕ) (a b : List Instruction) → Spans code from to (a ++ b) → (middle : ℕ) × Spans code from middle a × Spans code middle to b
 split code from to [] b h = (from, refl, h)
@@ -30,10 +30,11 @@ ended other k k' e by = absurd by
 module _ (program : Program) (d : ℕ) (counts : Counts) (code : List Instruction) where
   pub alike : (pc h p : ℕ) (k k' : Rest) → ((on : Operands) (s : State ℕ) → k' on s ≡ k on s) → Stands program d counts code pc h p k → Stands program d counts code pc h p k'
   alike pc h p k k' e (goes h' p' next i at heights is behind) = goes h' p' next i at heights (λ on s. e on s ∙ is on s) behind
+  alike pc h p k k' e (begins next variable at is behind) = begins next variable at (λ on s fits. e on s ∙ is on s fits) behind
   alike pc h p k k' e (jumps h' next far when n at heights is behind further) = jumps h' next far when n at heights (λ on s. e on s ∙ is on s) behind further
   alike pc h p k k' e (skips next labels n at is further) = skips next labels n at (λ on s. e on s ∙ is on s) further
   alike pc h p k k' e (turns n head fin next st at back spans end is exit) = turns n head fin next st at back spans end (λ on s. e on s ∙ is on s) exit
-  alike pc h p k k' e (selects fin next groups at spans is further) = selects fin next groups at spans (λ on s. e on s ∙ is on s) further
+  alike pc h p k k' e (selects fin next groups at spans last is further) = selects fin next groups at spans last (λ on s. e on s ∙ is on s) further
   alike pc h p k k' e (ends i at by) = ends i at (ended i k k' e by)
 
   -- one instruction

@@ -66,7 +66,7 @@ alike_where P Deep f g p h = refl
 
 -- ---- values on top of others
 
-reversed_on : (vs below : List Value) → onto vs below ≡ reverse vs ++ below
+pub reversed_on : (vs below : List Value) → onto vs below ≡ reverse vs ++ below
 reversed_on [] below = refl
 reversed_on (v ∷ vs) below = reversed_on vs (v ∷ below) ∙ sym (append_assoc (reverse vs) (v ∷ []) below) ∙ ap (λ l. l ++ below) (sym (reverse-append (v ∷ []) vs))
 

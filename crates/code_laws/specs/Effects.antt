@@ -60,9 +60,9 @@ last_values count on = reverse (take count on.values)
 abbrev pub without_values : ℕ → Operands → Operands
 without_values count on = record { values = drop count on.values; places = on.places; manner = on.manner; zeros = on.zeros }
 
--- the values that came first, from one on, so many
-abbrev pub early_values : ℕ → ℕ → Operands → List Value
-early_values at count on = take count (drop at (reverse on.values))
+-- of the last values, so many, those from one on, so many
+abbrev pub values_from : ℕ → ℕ → ℕ → Operands → List Value
+values_from slot at count on = take count (drop at (last_values slot on))
 
 -- ---- instructions
 
@@ -93,7 +93,7 @@ module _ (program : Program) (d : ℕ) where
   effect (I.Clear variable) next on = and_then (cleared_cells program variable) (λ zeros. and_then (put_cells program variable zeros) (λ _. next on))
   effect (I.Forget number) next on = and_then (left_scope (V.Local number ∷ []) Normally) (λ _. next on)
   effect (I.Begin variable count) next on = and_then (cleared_cells program variable) (λ zeros. and_then (put_cells program variable zeros) (λ _. next (with_values zeros on)))
-  effect (I.Pad at count slot) next on = next (with_values (early_values at count on) on)
+  effect (I.Pad at count slot) next on = next (with_values (values_from slot at count on) on)
   effect (I.Initialize variable zeros count) next on = and_then (put_cells program variable (last_values count on)) (λ _. next (without_values zeros (without_values count on)))
   effect (I.End manner) next on = next (with_manner (manner_of manner) on)
   effect I.Spend next on = spend (next on)
@@ -124,7 +124,6 @@ Heights (I.Element count size place slot) h p h' p' = (p ≡ suc place) × (p' �
 Heights (I.ElementAddress size place slot) h p h' p' = (p ≡ suc place) × (p' ≡ place) × (h ≡ suc slot) × (h' ≡ suc slot)
 Heights (I.Clear variable) h p h' p' = (h' ≡ h) × (p' ≡ p)
 Heights (I.Forget number) h p h' p' = (h' ≡ h) × (p' ≡ p)
-Heights (I.Begin variable count) h p h' p' = (h ≡ 0) × (h' ≡ count) × (p' ≡ p)
 Heights (I.Pad at count slot) h p h' p' = (h ≡ slot) × (h' ≡ slot + count) × (p' ≡ p)
 Heights (I.Initialize variable zeros count) h p h' p' = (h ≡ zeros + count) × (h' ≡ 0) × (p' ≡ p)
 Heights (I.End manner) h p h' p' = (h' ≡ h) × (p' ≡ p)

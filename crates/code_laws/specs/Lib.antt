@@ -1,3 +1,4 @@
 pub mod Effects
 pub mod Stands
+pub mod Selecting
 pub mod Laws

@@ -1,15 +1,16 @@
 -- What stands in code: from a place on, what is to come of what waits.
-use Rattle.std.specs.Prelude.{◌≡◌, ◌≢◌, ℕ, suc, ◌+◌, List, [], ◌∷◌, ◌++◌, slice_get, Some, None, Bool, true, false, if◌then◌else◌}
+use Rattle.std.specs.Prelude.{◌≡◌, ◌≢◌, ℕ, suc, ◌+◌, List, [], ◌∷◌, ◌++◌, length, slice_get, Some, None, Bool, true, false, if◌then◌else◌}
+use Rattle.rvt_tree.specs.declared.expressions.Variable.{Variable}
 use Rattle.rvt_tree.specs.declared.programs.Program.{Program}
 use Rattle.rvt_tree.specs.Syntax.{Statement, while_loop, do_loop, for_loop, Groups}
 use Rattle.c_meaning.specs.Outcomes.{State, Done, Manner, Normally, Broke, Continued, leave}
-use Rattle.c_meaning.specs.Stores.{number_of, holds}
+use Rattle.c_meaning.specs.Stores.{number_of, holds, cells_of}
 use Rattle.c_meaning.specs.Statements.{after_round, after_group}
 use Rattle.c_tasks.specs.Operands.{Operands, top_value, without_value, with_manner}
-use Rattle.c_tasks.specs.Tasks.{Rest, ending, tested, test_in, selecting}
+use Rattle.c_tasks.specs.Tasks.{Rest, ending, tested, selecting}
 use Rattle.c_code.specs.Expressions.{passing}
 use Rattle.c_code.specs.Acts.{acts_code}
-use Rattle.c_code.specs.Initializers.{Counts}
+use Rattle.c_code.specs.Initializers.{Counts, count_of}
 use Rattle.c_code.specs.Statements.{statement_code, test_code, looping, groups_code}
 use Rattle.c_code.specs.declared.instructions.When.{When}
 use Rattle.c_code.specs.declared.instructions.When.TheVariants as W
@@ -49,16 +50,12 @@ JumpHeights W.Broke h h' = h' ≡ h
 
 -- ---- loops
 
--- what comes between the test of a loop and its end
-abbrev pub round_code : Counts → Statement → List Instruction
-round_code counts (while_loop number test body) = statement_code counts body
-round_code counts (do_loop number body test) = statement_code counts body
-round_code counts (for_loop number first test last body) = statement_code counts body ++ passing W.Broke (acts_code last)
-round_code counts other = []
-
--- a loop from its test on
+-- a loop from its test on; what is no loop has no such code
 abbrev pub loop_code : Counts → Statement → List Instruction
-loop_code counts st = looping (test_code (test_in st)) (round_code counts st)
+loop_code counts (while_loop number test body) = looping (test_code (Some test)) (statement_code counts body)
+loop_code counts (do_loop number body test) = looping (test_code (Some test)) (statement_code counts body)
+loop_code counts (for_loop number first test last body) = looping (test_code test) (statement_code counts body ++ passing W.Broke (acts_code last))
+loop_code counts other = []
 
 -- ---- the end of an activation
 
@@ -73,6 +70,10 @@ pub data Stands (program : Program) (d : ℕ) (counts : Counts) (code : List Ins
   -- what an instruction does, and then what stands behind it
   goes : {pc h p : ℕ} {k : Rest} (h' p' : ℕ) (next : Rest) (i : Instruction) → slice_get code pc ≡ Some i → Heights i h p h' p' →
       ((on : Operands) (s : State ℕ) → k on s ≡ effect program d i next on s) → Stands program d counts code (suc pc) h' p' next → Stands program d counts code pc h p k
+  -- the zeros of a variable that has an initializer, where it has the cells that are counted for it
+  begins : {pc p : ℕ} {k : Rest} (next : Rest) (variable : Variable) → slice_get code pc ≡ Some (I.Begin variable (count_of counts variable)) →
+      ((on : Operands) (s : State ℕ) → length (cells_of program variable s.locals s.store) ≡ count_of counts variable → k on s ≡ effect program d (I.Begin variable (count_of counts variable)) next on s) →
+      Stands program d counts code (suc pc) (count_of counts variable) p next → Stands program d counts code pc 0 p k
   -- what stands behind a jump, or further on
   jumps : {pc h p : ℕ} {k : Rest} (h' : ℕ) (next far : Rest) (when : When) (n : ℕ) → slice_get code pc ≡ Some (I.Jump when n) → JumpHeights when h h' →
       ((on : Operands) (s : State ℕ) → k on s ≡ jumping when next far on s) → (when ≢ W.Always → Stands program d counts code (suc pc) h' p next) → Stands program d counts code (pc + n) h' p far → Stands program d counts code pc h p k
@@ -84,7 +85,7 @@ pub data Stands (program : Program) (d : ℕ) (counts : Counts) (code : List Ins
       ((on : Operands) (s : State ℕ) → k on s ≡ ending program d (after_round (tested program d st) on.manner) next on s) →
       Stands program d counts code (suc pc) 0 0 (λ on. next (with_manner Normally on)) → Stands program d counts code pc 0 0 k
   -- one of the groups that follow
-  selects : {pc : ℕ} {k : Rest} (fin : ℕ) (next : Rest) (groups : Groups) → slice_get code pc ≡ Some (I.Select 0) → Spans code (suc pc) fin (groups_code counts groups) →
+  selects : {pc : ℕ} {k : Rest} (fin : ℕ) (next : Rest) (groups : Groups) → slice_get code pc ≡ Some (I.Select 0) → Spans code (suc pc) fin (groups_code counts groups) → slice_get code fin ≡ Some I.LeaveSwitch →
       ((on : Operands) (s : State ℕ) → k on s ≡ selecting program d groups next on s) →
       Stands program d counts code fin 0 0 (λ on. ending program d (after_group on.manner) next on) → Stands program d counts code pc 1 0 k
   -- the end of the activation
