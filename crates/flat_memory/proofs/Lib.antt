@@ -1,0 +1,9 @@
+pub mod Cleared
+pub mod Parts
+pub mod ObjectCells
+pub mod Sharing
+pub mod Stacks
+pub mod Spots
+pub mod LocalSteps
+pub mod ObjectSteps
+pub mod Copying

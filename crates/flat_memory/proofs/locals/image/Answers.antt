@@ -1,0 +1,10 @@
+use Rattle.std.proofs.Common.{◌∙◌, ap, sym}
+use Rattle.flat_memory.specs.Cells.{joined}
+use Rattle.flat_memory.proofs.LocalSteps.{found_is, missing_is}
+use Rattle.flat_memory.proofs.locals.image.Goals as goal
+
+pub returns-in-Some : goal.returns-in-Some
+returns-in-Some c = c.cells.ensures ∙ ap joined (sym (found_is c.args.entries.now c.args.function c.in-Some.entry.now c.in-Some.ensures))
+
+pub returns-in-None : goal.returns-in-None
+returns-in-None c = ap joined (sym (missing_is c.args.entries.now c.args.function c.in-None.ensures))
