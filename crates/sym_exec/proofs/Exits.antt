@@ -21,7 +21,7 @@ use Rattle.symbolic_runs.proofs.Joined.{ending}
 use Rattle.symbolic_runs.proofs.Keeping.{exits_later}
 use Rattle.symbolic_runs.specs.Ending.{MadeEnd, IsEndKept, end_built, with_exit}
 use Rattle.symbolic_runs.specs.Keeping.{Layout, HowIsKept, IsExitKept}
-use Rattle.symbolic_runs.specs.Runs.{How, Traps, Stops, Exit, with_chosen, chosen}
+use Rattle.symbolic_runs.specs.Runs.{How, Stops, Exit, with_chosen, chosen}
 
 -- ---- what registers hold
 

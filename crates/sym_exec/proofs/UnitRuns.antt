@@ -1,8 +1,8 @@
 -- A unit that is run by its steps.
-use Rattle.std.proofs.Common.{◌≡◌, ◌/◌, ◌%◌, ℕ, zero, suc, Bool, true, false, List, [], ◌∷◌, length, refl, sym, ap, ◌∙◌, subst, arith}
+use Rattle.std.proofs.Common.{◌≡◌, ◌/◌, ◌%◌, ℕ, zero, suc, Bool, true, false, List, [], ◌∷◌, length, refl, sym, ap, ◌∙◌, subst}
 use Rattle.std.specs.Prelude.{◌==◌, map, pos}
 use Rattle.std.specs.List.{AllByRecursion}
-use Rattle.aig_build.specs.Circuits.{Node, IsCircuit, Grows, constant}
+use Rattle.aig_build.specs.Circuits.{Node, IsCircuit}
 use Rattle.bit_ops.specs.declared.values.SymValue.{SymValue}
 use Rattle.bit_words.proofs.ConvertValues.{AreThere-append}
 use Rattle.bit_words.proofs.RippleCarry.{AreThere-later}
@@ -32,8 +32,8 @@ use Rattle.sym_values.specs.Values.{lits_of, all_lits, AreLaid}
 use Rattle.symbolic_runs.proofs.Joined.{ending}
 use Rattle.symbolic_runs.proofs.Keeping.{lit_zero}
 use Rattle.symbolic_runs.proofs.Units.{unit}
-use Rattle.symbolic_runs.specs.Ending.{LitEnd, MadeEnd, Executed, IsEndKept, IsUnitRun, end_built, executed, with_owned, at_start}
-use Rattle.symbolic_runs.specs.Keeping.{Layout, IsWorldKept, IsStoreKept, IsExitKept}
+use Rattle.symbolic_runs.specs.Ending.{MadeEnd, IsUnitRun, end_built, with_owned}
+use Rattle.symbolic_runs.specs.Keeping.{IsWorldKept, IsStoreKept, IsExitKept}
 use Rattle.symbolic_runs.specs.Runs.{World, SymRun, Exit, GuardedCall}
 use Rattle.symbolic_runs.specs.Simulation.{Subject, layout, objects_in}
 

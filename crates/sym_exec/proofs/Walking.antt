@@ -1,13 +1,12 @@
 -- How a run goes on with each form of code.
-use Rattle.std.proofs.Common.{◌≡◌, ◌<◌, ◌≤◌, ◌+◌, ℕ, zero, suc, Bool, List, [], ◌∷◌, ◌++◌, length, take, get_or, refl, sym, ap, ◌∙◌, subst, arith}
+use Rattle.std.proofs.Common.{◌≡◌, ◌<◌, ◌≤◌, ◌+◌, ℕ, zero, suc, List, [], ◌∷◌, ◌++◌, length, take, get_or, sym, ap, ◌∙◌, subst, arith}
 use Rattle.std.proofs.lemmas.List.{take_all, take_more}
 use Rattle.std.specs.List.{AllByRecursion}
-use Rattle.aig_build.proofs.Nodes.{Grows-trans}
 use Rattle.aig_build.specs.Built.{Made, and_built}
 use Rattle.aig_build.specs.Circuits.{Node, IsCircuit, Grows, opposite}
 use Rattle.aig_build.specs.declared.lits.Lit.{Lit}
 use Rattle.core_ir.specs.Calls.{joined}
-use Rattle.core_ir.specs.Meaning.{Answers, Flow, Request, Setting, Step, choice, does, node, setting_of}
+use Rattle.core_ir.specs.Meaning.{Answers, Flow, Request, Setting, Step, does, node, setting_of}
 use Rattle.core_ir.specs.Nodes.{CodeNode, node_nodes, nodes_in}
 use Rattle.core_ir.specs.Places.{State}
 use Rattle.core_ir.specs.declared.units.Code.{Code}
@@ -29,11 +28,10 @@ use Rattle.sym_store.proofs.Stores.{stores_alike}
 use Rattle.sym_store.specs.Stores.{LitStore, AreStoresAlike}
 use Rattle.symbolic_runs.proofs.Keeping.{lit_later, store_later}
 use Rattle.symbolic_runs.proofs.Rules.{branches}
-use Rattle.symbolic_runs.specs.Keeping.{IsLitThere, IsWorldKept, IsStoreKept, IsStateKept}
-use Rattle.symbolic_runs.specs.Runs.{World, SymState, Traps, Stops, GuardedCall, Stepped, MadeLit, yes_of, no_of, chosen}
+use Rattle.symbolic_runs.specs.Keeping.{IsLitThere, IsWorldKept, IsStateKept}
+use Rattle.symbolic_runs.specs.Runs.{World, SymState, Traps, Stops, GuardedCall, MadeLit, yes_of, no_of, chosen}
 use Rattle.symbolic_runs.specs.Runs.{with_live as at_live}
 use Rattle.symbolic_runs.specs.Simulation.{Subject, layout, objects_in, IsCallOf}
-use Rattle.uf_abstraction.specs.Applications.{Application}
 
 -- ---- states in a circuit that has grown
 

@@ -3,7 +3,6 @@ use Rattle.std.specs.Prelude.{List, [], ◌∷◌, ◌++◌, map}
 use Rattle.std.specs.List.{AllByRecursion}
 use Rattle.aig_build.specs.Circuits.{Node, IsCircuit}
 use Rattle.aig_build.specs.declared.lits.Lit.{Lit}
-use Rattle.bit_ops.specs.declared.values.SymValue.{SymValue}
 use Rattle.bit_words.specs.Words.{AreThere}
 use Rattle.rvt_num.specs.declared.values.Trap.{Trap}
 use Rattle.sym_exec.specs.declared.ends.Values.{Values}

@@ -12,7 +12,7 @@ use Rattle.core_ir.specs.declared.units.Code.{Code}
 use Rattle.core_ir.specs.declared.units.CoreOp.{CoreOp}
 use Rattle.core_ir.specs.declared.units.Spot.{Spot}
 use Rattle.rvt_num.specs.declared.values.Trap.{Trap}
-use Rattle.sym_paths.specs.Going.{world, GoesOn, done_by, done_by_all}
+use Rattle.sym_paths.specs.Going.{world, GoesOn, done_by}
 use Rattle.sym_paths.specs.Runs.{LitRun, with_live, Branches}
 use Rattle.sym_store.specs.Stores.{LitStore}
 use Rattle.symbolic_runs.specs.Keeping.{IsWorldKept, IsStateKept}

@@ -1,4 +1,3 @@
-use Rattle.std.proofs.Common.{refl}
 use Rattle.sym_exec.proofs.Exits.{held_more}
 use Rattle.sym_exec.proofs.ends.held.Goals as goal
 
