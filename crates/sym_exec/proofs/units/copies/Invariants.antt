@@ -1,0 +1,5 @@
+use Rattle.std.proofs.Common.{◌≡◌, take}
+use Rattle.sym_exec.proofs.units.copies.Given as goal
+
+abbrev pub invariant-values : goal.invariant-values
+invariant-values l = l.copies.items ≡ take l.value-index l.values
