@@ -22,12 +22,15 @@ use Rattle.sym_store.specs.Stores.{LitStore, StandsFor, IsStoreLaid}
 use Rattle.sym_values.specs.Valuations.{Valuation, IsValuation}
 use Rattle.sym_values.specs.Values.{value_under, IsLaid}
 
--- what an object's cell holds: of a constant object its contents, and else what the store has
+-- what a cell of an object holds whose mutable cells begin at the base: of a constant object its contents, and else what the store has
+abbrev pub cell_in : CoreObject → ℕ → List SymValue → ℕ → SymValue
+cell_in x base cells c =
+    if x.constant then constant_value (slice_index_or x.contents c Null)
+    else (if nat_lt c (length x.cells) then slice_index_or cells (base + c) (constant_value Null) else constant_value Null)
+
 abbrev pub cell_held : List CoreObject → List SymValue → ℕ → ℕ → Option CoreObject → SymValue
 cell_held objects cells o c None = constant_value Null
-cell_held objects cells o c (Some x) =
-    if x.constant then constant_value (slice_index_or x.contents c Null)
-    else (if nat_lt c (length x.cells) then slice_index_or cells (base_of objects o + c) (constant_value Null) else constant_value Null)
+cell_held objects cells o c (Some x) = cell_in x (base_of objects o) cells c
 
 abbrev pub held_by : List CoreObject → LitStore → Target → SymValue
 held_by objects s (Cell o c) = cell_held objects s.cells o c (slice_get objects o)

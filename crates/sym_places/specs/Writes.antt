@@ -1,5 +1,5 @@
 -- What is written at a spot.
-use Rattle.std.specs.Prelude.{◌≡◌, ℕ, ◌+◌, true, false, List, [], ◌∷◌, length, Option, Some, None, Result, Ok, Err, slice_get, slice_set, nat_lt, if◌then◌else◌}
+use Rattle.std.specs.Prelude.{◌≡◌, ℕ, ◌+◌, true, false, List, [], ◌∷◌, length, Option, Some, None, Result, Ok, Err, slice_get, nat_lt, if◌then◌else◌}
 use Rattle.std.specs.List.{AllByRecursion}
 use Rattle.aig_build.specs.Built.{and_built}
 use Rattle.aig_build.specs.Circuits.{Node}
@@ -20,15 +20,18 @@ use Rattle.sym_spots.specs.declared.aims.Target.{Target}
 use Rattle.sym_spots.specs.declared.aims.Target.TheVariants.{Cell, Register}
 use Rattle.sym_spots.specs.declared.spots.SpotTraps.{SpotTraps}
 use Rattle.sym_store.specs.Merging.{merged_value}
-use Rattle.sym_store.specs.Stores.{LitStore, StandsFor, IsStoreLaid, MadeStore, with_value}
+use Rattle.sym_store.specs.Stores.{LitStore, StandsFor, IsStoreLaid, MadeStore, with_value, with_cell_value}
 use Rattle.sym_values.specs.Valuations.{Valuation, IsValuation}
 use Rattle.sym_values.specs.Values.{value_under, IsLaid}
 
--- the store with a cell set; nothing is written into a constant object, nor outside the object
+-- the store with a cell of an object set whose mutable cells begin at the base; nothing is written into a constant object, nor outside
+-- the object
+abbrev pub with_cell_in : CoreObject → ℕ → LitStore → ℕ → SymValue → LitStore
+with_cell_in object base s c x = if nat_lt c (length (mutable_cells object)) then with_cell_value s (base + c) x else s
+
 abbrev pub with_cell_held : List CoreObject → LitStore → ℕ → ℕ → SymValue → Option CoreObject → LitStore
 with_cell_held objects s o c x None = s
-with_cell_held objects s o c x (Some object) =
-    if nat_lt c (length (mutable_cells object)) then record { registers = s.registers; cells = slice_set s.cells (base_of objects o + c) x } else s
+with_cell_held objects s o c x (Some object) = with_cell_in object (base_of objects o) s c x
 
 abbrev pub with_held : List CoreObject → LitStore → Target → SymValue → LitStore
 with_held objects s (Cell o c) x = with_cell_held objects s o c x (slice_get objects o)
