@@ -1,4 +1,5 @@
 use crate::desks::{compare, run};
+use std::alloc::Global;
 use std::test::Fail;
 
 const FACTORIAL: &str = "int f(int n){ if (n <= 1) return 1; return n * f(n - 1); }";
